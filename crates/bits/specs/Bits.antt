@@ -1,0 +1,31 @@
+-- Bits and fields of a number, and membership of a list: the words in which every other definition is written.
+use Prim.Native.Nat.{ℕ, _+_, _*_, _-_, _^_, _/_, _%_}
+use mathlib.Core.Bool.{Bool, true, false, _||_}
+use mathlib.Core.List.{List, [], _∷_}
+use lib.Dec.{eqb}
+use lib.Bits.{bitAnd}
+
+-- Bit k of x: 0 or 1.
+abbrev pub bit : ℕ → ℕ → ℕ
+bit k x = x / 2 ^ k % 2
+
+-- Bit k of x is 1.
+abbrev pub isSet : ℕ → ℕ → Bool
+isSet k x = eqb (bit k x) 1
+
+-- Bits hi:lo of x, as Arm writes a field.
+abbrev pub part : ℕ → ℕ → ℕ → ℕ
+part hi lo x = x / 2 ^ lo % 2 ^ (hi - lo + 1)
+
+-- x as the field at bits hi:lo of a number that is 0 elsewhere.
+abbrev pub put : ℕ → ℕ → ℕ → ℕ
+put hi lo x = x % 2 ^ (hi - lo + 1) * 2 ^ lo
+
+-- x has no bit outside the mask.
+abbrev pub within : ℕ → ℕ → Bool
+within mask x = eqb (bitAnd x mask) x
+
+-- x stands in the list.
+abbrev pub oneOf : List ℕ → ℕ → Bool
+oneOf [] x = false
+oneOf (y ∷ ys) x = eqb x y || oneOf ys x

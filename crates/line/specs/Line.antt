@@ -1,0 +1,68 @@
+-- Document 01, "Recordings": "It prints a line for each read (16 lower-case hex digits), each access not performed
+-- (undefined, trap2, trap3) and each refusal ('refused 4'); nothing else."
+use Prim.Native.Nat.{ℕ, zero, suc, _+_, _*_, _-_, _^_, _/_, _%_}
+use Prim.Native.Char.{code}
+use Prim.Native.String.{String, [] as nothing, _∷_ as join}
+use mathlib.Core.Bool.{Bool, true, false, cond, _||_}
+use mathlib.Core.List.{List, [], _∷_, _++_}
+use lib.Dec.{leb, ltb}
+use lib.ListN.{length, replicate}
+use Rattle.state.specs.declared.State.{State}
+use Rattle.state.specs.Named.{fresh}
+use Rattle.recorder.specs.declared.Answer.{Answer}
+use Rattle.recorder.specs.declared.Answer.the-variants.{Done, Value, Undefined, Trap2, Trap3, Refused}
+use Rattle.recording.specs.RecordedStep.{recordedStep, stopsReading}
+
+-- The bytes of a text.
+abbrev pub bytesOfText : String → List ℕ
+bytesOfText nothing = []
+bytesOfText (join c text) = code c ∷ bytesOfText text
+
+-- The digit of a number below 16.
+abbrev pub hexDigit : ℕ → ℕ
+hexDigit n = cond (ltb n 10) (48 + n) (87 + n)
+
+-- The lowest k hexadecimal digits of n, highest first.
+unfoldable pub hexDigits : ℕ → ℕ → List ℕ
+hexDigits zero n = []
+hexDigits (suc k) n = hexDigits k (n / 16) ++ (hexDigit (n % 16) ∷ [])
+
+-- n in decimal, of at most k digits.
+unfoldable pub decimalIn : ℕ → ℕ → List ℕ
+decimalIn zero n = []
+decimalIn (suc k) n = cond (ltb n 10) ((48 + n) ∷ []) (decimalIn k (n / 10) ++ ((48 + n % 10) ∷ []))
+
+-- A number below 2^64 in decimal.
+unfoldable pub decimal : ℕ → List ℕ
+decimal n = decimalIn 20 n
+
+-- The line of an answer, its end included, or no byte.
+unfoldable pub lineOf : Answer → List ℕ
+lineOf Done = []
+lineOf (Value v) = hexDigits 16 v ++ bytesOfText "\n"
+lineOf Undefined = bytesOfText "undefined\n"
+lineOf Trap2 = bytesOfText "trap2\n"
+lineOf Trap3 = bytesOfText "trap3\n"
+lineOf (Refused n) = bytesOfText "refused " ++ decimal n ++ bytesOfText "\n"
+
+-- "The replay program starts from a fresh state with room for 64 records."
+abbrev pub replayRoom : List ℕ
+replayRoom = replicate 192 0
+
+-- What a replay prints from a state, a room and a place on, of at most k operations: "Operations one after another to the
+-- end of input." At the end no operation begins, and there is no line.
+unfoldable pub replayFrom : ℕ → State → List ℕ → List ℕ → ℕ → List ℕ
+replayFrom zero s room bytes at = []
+replayFrom (suc k) s room bytes at =
+    elim (leb (length bytes) at) [
+      | true ↦ []
+      | false ↦ lineOf (recordedStep s room bytes at .result .answer)
+          ++ elim (stopsReading (recordedStep s room bytes at .result .answer)) [
+            | true ↦ []
+            | false ↦ replayFrom k (recordedStep s room bytes at .result .state) (recordedStep s room bytes at .result .room) bytes (recordedStep s room bytes at .next)
+          ]
+    ]
+
+-- What the replay of a recording prints. Each operation has a byte at least, so that its length bounds the operations.
+unfoldable pub replayOf : List ℕ → List ℕ
+replayOf bytes = replayFrom (length bytes) fresh replayRoom bytes 0

@@ -1,0 +1,1 @@
+// What the replay program prints (document 01, "Recordings"). Definitions only: specs/Line.antt.

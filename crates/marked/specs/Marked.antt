@@ -1,0 +1,93 @@
+-- Document 01, "Marked cases": one table, and one fact about it, which the checker computes from the definitions.
+use Prim.Native.Nat.{ℕ}
+use mathlib.Core.Path.{_≡_, refl}
+use mathlib.Core.Bool.{Bool, true, false, cond}
+use mathlib.Core.List.{List, [], _∷_, _++_, map}
+use Rattle.count.specs.declared.Decoded.{Decoded}
+use Rattle.count.specs.declared.Decoded.the-variants.{Known}
+use Rattle.filter.specs.Filter.{branchTypes}
+use Rattle.line.specs.Line.{bytesOfText}
+use Rattle.recording.specs.declared.Numbers.{Numbers}
+use Rattle.count.specs.Count.{bitLength, exponent, mantissa, encoded, countOf, decoded}
+use Rattle.number.specs.Number.{numberIn, numberAt, bytesIn, bytesOf}
+use Rattle.state.specs.Named.{EL2Enabled, EL3Recorded, counting, predictionShown}
+use Rattle.state.specs.Sound.{closed, sound}
+use Rattle.room.specs.Room.{records, numbered, pushed, cleared, roomAfter}
+use Rattle.region.specs.Region.{enabled, securelyProhibited, prohibited}
+use Rattle.filter.specs.Filter.{filterBit, chosen}
+use Rattle.event.specs.Event.{controlled, valid, countUnknown, MPRED, BRBINF, recordOf, made}
+use Rattle.access.specs.Access.{permit, trapped2, trapped3, outcome, readOutcome, writeOutcome, meant, shownRecord, registerValue, registerWritten}
+use Rattle.operation.specs.Operation.{operationOf, codeOf}
+use Rattle.operation.specs.Refusal.{unknownCode, notReset, outsideList, notPermitted, sizeAfter, roomTooShort, refusalOf}
+use Rattle.recorder.specs.Step.{outcomeOf, performedAnswer, changed, occasion, passed, effectOf, stateAfter, accepted, stepOf}
+use Rattle.recording.specs.Recording.{fieldCount, numbersAt, operationAt, bytesOfAll, operationBytes}
+use Rattle.recording.specs.RecordedStep.{recordedStep}
+use Rattle.line.specs.Line.{hexDigits, decimalIn, decimal, lineOf, replayFrom, replayOf}
+
+-- An operation as document 01 writes it: code, cycles, then fields.
+abbrev pub operation : ℕ → ℕ → ℕ → ℕ → ℕ → ℕ → Numbers
+operation code cycles a b c d = record { code = code; cycles = cycles; a = a; b = b; c = c; d = d }
+
+-- A marked case: what is put in, and what must come out.
+pub data Case : Type 0 where
+  -- a count, and its CC
+  Encodes : ℕ → ℕ → Case
+  -- a CC, and what it says
+  Decodes : ℕ → Decoded → Case
+  -- a filter word, and the branch types that it records
+  Records : ℕ → List ℕ → Case
+  -- a session's operations, and what its replay prints, line by line
+  Prints : List Numbers → List ℕ → Case
+
+abbrev pub recording : List Numbers → List ℕ
+recording [] = []
+recording (x ∷ list) = operationBytes x ++ recording list
+
+abbrev pub chosenOf : ℕ → List ℕ → List ℕ
+chosenOf word [] = []
+chosenOf word (t ∷ types) = cond (chosen word (record { code = t })) (t ∷ chosenOf word types) (chosenOf word types)
+
+-- The case with what the definitions make of its input. A session is written, read back, stepped and printed.
+abbrev pub computed : Case → Case
+computed (Encodes n cc) = Encodes n (encoded n)
+computed (Decodes cc n) = Decodes cc (decoded cc)
+computed (Records word types) = Records word (chosenOf word branchTypes)
+computed (Prints session text) = Prints session (replayOf (recording session))
+
+-- Session S1.
+abbrev pub S1 : List Numbers
+S1 =
+    operation 0 0 8 0 0 0
+    ∷ operation 4 0 49 0 0 0
+    ∷ operation 6 0 1 10 0 0
+    ∷ operation 6 0 2 8 0 0
+    ∷ operation 6 0 3 65536 0 0
+    ∷ operation 3 0 1 0 128 4096
+    ∷ operation 1 300 0 0 4100 4112
+    ∷ operation 1 300 8 1 4112 4096
+    ∷ operation 5 0 32 0 0 0
+    ∷ operation 5 0 33 0 0 0
+    ∷ operation 5 0 64 0 0 0
+    ∷ operation 5 0 2 0 0 0
+    ∷ []
+
+-- P1 to P12.
+abbrev pub cases : List Case
+cases =
+    Encodes 0 0
+    ∷ Encodes 255 0xFF
+    ∷ Encodes 256 0x100
+    ∷ Encodes 511 0x1FF
+    ∷ Encodes 513 0x200
+    ∷ Encodes 1048575 0xCFF
+    ∷ Encodes 1048576 0x3FFF
+    ∷ Decodes 0xCFF (Known 1046528)
+    ∷ Records 0 []
+    ∷ Records 0x10000 branchTypes
+    ∷ Records 0x30000 (1 ∷ 2 ∷ 3 ∷ 5 ∷ 8 ∷ [])
+    ∷ Prints S1 (bytesOfText "0000012c00000843\n0000400000000043\n0000000000001010\nundefined\n")
+    ∷ []
+
+pub marked : map computed cases ≡ cases
+unfolding bitLength exponent mantissa encoded countOf decoded numberIn numberAt bytesIn bytesOf EL2Enabled EL3Recorded counting predictionShown closed sound records numbered pushed cleared roomAfter enabled securelyProhibited prohibited filterBit chosen controlled valid countUnknown MPRED BRBINF recordOf made permit trapped2 trapped3 outcome readOutcome writeOutcome meant shownRecord registerValue registerWritten operationOf codeOf unknownCode notReset outsideList notPermitted sizeAfter roomTooShort refusalOf outcomeOf performedAnswer changed occasion passed effectOf stateAfter accepted stepOf fieldCount numbersAt operationAt bytesOfAll operationBytes recordedStep hexDigits decimalIn decimal lineOf replayFrom replayOf
+marked = refl

@@ -1,0 +1,29 @@
+-- Document 01, "Operations": an operation from its code and four numbers; those beyond its own fields are not looked at.
+use Prim.Native.Nat.{ℕ}
+use mathlib.Core.Bool.{cond}
+use lib.Dec.{eqb}
+use Rattle.operation.specs.declared.Operation.{Operation}
+use Rattle.operation.specs.declared.Operation.the-variants.{Reset, Branch, Exception, Return, Platform, Read, Write, Iall, Unknown}
+
+unfoldable pub operationOf : ℕ → ℕ → ℕ → ℕ → ℕ → Operation
+operationOf code a b c d =
+    cond (eqb code 0) (Reset a b)
+    (cond (eqb code 1) (Branch a b c d)
+    (cond (eqb code 2) (Exception a b c d)
+    (cond (eqb code 3) (Return a b c d)
+    (cond (eqb code 4) (Platform a)
+    (cond (eqb code 5) (Read a)
+    (cond (eqb code 6) (Write a b)
+    (cond (eqb code 7) Iall Unknown)))))))
+
+-- The code of an operation; of an unknown one, the first that is above 7.
+unfoldable pub codeOf : Operation → ℕ
+codeOf (Reset size v1p1) = 0
+codeOf (Branch kind m source target) = 1
+codeOf (Exception kind level source target) = 2
+codeOf (Return level m source target) = 3
+codeOf (Platform p) = 4
+codeOf (Read r) = 5
+codeOf (Write r value) = 6
+codeOf Iall = 7
+codeOf Unknown = 8

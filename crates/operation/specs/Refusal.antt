@@ -1,0 +1,74 @@
+-- Document 01, "Refusal numbers, in order of checking": each line's condition, and the first that holds.
+use Prim.Native.Nat.{ℕ}
+use mathlib.Core.Bool.{Bool, true, false, cond, _&&_, _||_, not}
+use lib.Dec.{eqb, ltb}
+use Rattle.bits.specs.Bits.{within, oneOf}
+use Rattle.state.specs.declared.State.{State}
+use Rattle.state.specs.Named.{sizes}
+use Rattle.state.specs.Sound.{platformMask, closed, sound}
+use Rattle.room.specs.Room.{needed}
+use Rattle.filter.specs.Filter.{branchTypes, exceptionTypes}
+use Rattle.access.specs.Access.{isRegister}
+use Rattle.operation.specs.Operation.{codeOf}
+use Rattle.operation.specs.declared.Operation.{Operation}
+use Rattle.operation.specs.declared.Operation.the-variants.{Reset, Branch, Exception, Return, Platform, Read, Write, Iall, Unknown}
+
+-- 2: "code above 7"
+unfoldable pub unknownCode : Operation → Bool
+unknownCode o = ltb 7 (codeOf o)
+
+-- 3: "no reset yet (size 0), and the code is not 0"
+unfoldable pub notReset : State → Operation → Bool
+notReset s o = eqb (s .size) 0 && not (eqb (codeOf o) 0)
+
+-- 4: "size, flag, type, level, register, P or count encoding outside its list"
+unfoldable pub outsideList : Operation → Bool
+outsideList (Reset size v1p1) = not (oneOf sizes size) || ltb 1 v1p1
+outsideList (Branch kind m source target) = not (oneOf branchTypes kind) || ltb 1 m
+outsideList (Exception kind level source target) = not (oneOf exceptionTypes kind) || ltb 3 level
+outsideList (Return level m source target) = ltb 3 level || ltb 1 m
+outsideList (Platform p) = not (within platformMask p)
+outsideList (Read r) = not (isRegister r)
+outsideList (Write r value) = not (isRegister r)
+outsideList Iall = false
+outsideList Unknown = false
+
+-- 5: "exception to a level below the current one or to 0; return from 0 or to a higher level; target 2 with EL2 not
+-- enabled; target 1 with TGE and EL2 enabled; code 4 when the level is not 3"
+unfoldable pub notPermitted : State → Operation → Bool
+notPermitted s (Reset size v1p1) = false
+notPermitted s (Branch kind m source target) = false
+notPermitted s (Exception kind level source target) = ltb level (s .level) || eqb level 0 || closed s level
+notPermitted s (Return level m source target) = eqb (s .level) 0 || ltb (s .level) level || closed s level
+notPermitted s (Platform p) = not (eqb (s .level) 3)
+notPermitted s (Read r) = false
+notPermitted s (Write r value) = false
+notPermitted s Iall = false
+notPermitted s Unknown = false
+
+-- The size after the operation.
+unfoldable pub sizeAfter : State → Operation → ℕ
+sizeAfter s (Reset size v1p1) = size
+sizeAfter s (Branch kind m source target) = s .size
+sizeAfter s (Exception kind level source target) = s .size
+sizeAfter s (Return level m source target) = s .size
+sizeAfter s (Platform p) = s .size
+sizeAfter s (Read r) = s .size
+sizeAfter s (Write r value) = s .size
+sizeAfter s Iall = s .size
+sizeAfter s Unknown = s .size
+
+-- 6: "lent room below three 64-bit numbers a record, for the size after the operation"
+unfoldable pub roomTooShort : State → Operation → ℕ → Bool
+roomTooShort s o room = ltb room (needed (sizeAfter s o))
+
+-- The number of the first line of the table, in its order, whose condition holds; 0 if none does and the operation is
+-- accepted. `room` is the lent room's length.
+unfoldable pub refusalOf : State → Operation → ℕ → ℕ
+refusalOf s o room =
+    cond (not (sound s)) 7
+    (cond (unknownCode o) 2
+    (cond (notReset s o) 3
+    (cond (outsideList o) 4
+    (cond (notPermitted s o) 5
+    (cond (roomTooShort s o room) 6 0)))))

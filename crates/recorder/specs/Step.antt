@@ -1,0 +1,156 @@
+-- The step. Every input has one answer, one next state and one next room.
+use Prim.Native.Nat.{ℕ, _+_, min}
+use mathlib.Core.Bool.{Bool, true, false, cond, _&&_, _||_, not}
+use mathlib.Core.List.{List}
+use lib.Dec.{eqb}
+use lib.ListN.{length}
+use Rattle.state.specs.declared.State.{State}
+use Rattle.state.specs.declared.Running.{Running}
+use Rattle.state.specs.Named.{nBRBIALL, counting, PAUSED, runningAfterReset, afterReset, atLevel, withPlatform, withRunning}
+use Rattle.state.specs.Sound.{cap}
+use Rattle.state.specs.Words.{stateOf, stored, soundWords}
+use Rattle.room.specs.declared.Effect.{Effect}
+use Rattle.room.specs.declared.Effect.the-variants.{Keep, Push, Clear, Start}
+use Rattle.room.specs.Room.{records, roomAfter}
+use Rattle.region.specs.Region.{prohibited}
+use Rattle.filter.specs.Filter.{returnType, chosen}
+use Rattle.event.specs.declared.Event.{Event}
+use Rattle.event.specs.Event.{controlled, made}
+use Rattle.access.specs.declared.Outcome.{Outcome}
+use Rattle.access.specs.declared.Outcome.the-variants.{Performed, Undefined, Trap2, Trap3}
+use Rattle.access.specs.Access.{outcome, readOutcome, writeOutcome, meant, registerValue, registerWritten}
+use Rattle.operation.specs.declared.Operation.{Operation}
+use Rattle.operation.specs.declared.Operation.the-variants.{Reset, Branch, Exception, Return, Platform, Read, Write, Iall, Unknown}
+use Rattle.operation.specs.Refusal.{refusalOf}
+use Rattle.recorder.specs.declared.Answer.{Answer}
+use Rattle.recorder.specs.declared.Answer.the-variants.{Done, Value, Refused}
+
+-- Document 01, "Refusal numbers", last paragraph: "A refusal returns its number and the value 0. An accepted operation
+-- returns 0 (done), 100 (undefined), 102 (trap2) or 103 (trap3), and a value that is 0 but for a read."
+abbrev pub numberOf : Answer → ℕ
+numberOf Done = 0
+numberOf (Value v) = 0
+numberOf Answer.Undefined = 100
+numberOf Answer.Trap2 = 102
+numberOf Answer.Trap3 = 103
+numberOf (Refused n) = n
+
+abbrev pub valueOf : Answer → ℕ
+valueOf Done = 0
+valueOf (Value v) = v
+valueOf Answer.Undefined = 0
+valueOf Answer.Trap2 = 0
+valueOf Answer.Trap3 = 0
+valueOf (Refused n) = 0
+
+-- How an operation ends. Only reads, writes and BRB IALL can be undefined or trapped.
+unfoldable pub outcomeOf : State → Operation → Outcome
+outcomeOf s (Reset size v1p1) = Performed
+outcomeOf s (Branch kind m source target) = Performed
+outcomeOf s (Exception kind level source target) = Performed
+outcomeOf s (Return level m source target) = Performed
+outcomeOf s (Platform p) = Performed
+outcomeOf s (Read r) = readOutcome s r
+outcomeOf s (Write r value) = writeOutcome s r
+outcomeOf s Iall = outcome s false nBRBIALL
+outcomeOf s Unknown = Performed
+
+-- What a performed operation answers: a read its value, any other nothing.
+unfoldable pub performedAnswer : State → Operation → List ℕ → Answer
+performedAnswer s (Reset size v1p1) room = Done
+performedAnswer s (Branch kind m source target) room = Done
+performedAnswer s (Exception kind level source target) room = Done
+performedAnswer s (Return level m source target) room = Done
+performedAnswer s (Platform p) room = Done
+performedAnswer s (Read r) room = Value (registerValue s (records (s .size) room) (meant s r))
+performedAnswer s (Write r value) room = Done
+performedAnswer s Iall room = Done
+performedAnswer s Unknown room = Done
+
+abbrev pub answered : Outcome → Answer → Answer
+answered Performed a = a
+answered Undefined a = Answer.Undefined
+answered Trap2 a = Answer.Trap2
+answered Trap3 a = Answer.Trap3
+
+abbrev pub isPerformed : Outcome → Bool
+isPerformed Performed = true
+isPerformed Undefined = false
+isPerformed Trap2 = false
+isPerformed Trap3 = false
+
+-- The state once the operation has set level, P or registers; the running count is not yet touched, but by a reset.
+unfoldable pub changed : State → Operation → State
+changed s (Reset size v1p1) = afterReset size v1p1
+changed s (Branch kind m source target) = s
+changed s (Exception kind level source target) = atLevel level s
+changed s (Return level m source target) = atLevel level s
+changed s (Platform p) = withPlatform p s
+changed s (Read r) = s
+changed s (Write r value) = cond (isPerformed (writeOutcome s r)) (registerWritten s (meant s r) value) s
+changed s Iall = s
+changed s Unknown = s
+
+-- Document 01, "Cycles": the occasions on which the next count becomes unknown. "an accepted operation, this one
+-- included, began at a prohibited level (house); a write turned counting on; a write cleared PAUSED from 1." R_MJDLC.
+unfoldable pub occasion : State → Operation → Bool
+occasion s o =
+    prohibited s (s .level) || not (counting s) && counting (changed s o) || PAUSED s && not (PAUSED (changed s o))
+
+-- "The running count adds each accepted operation's cycles and stops at 1,048,576."
+unfoldable pub passed : State → Operation → ℕ → Running
+passed s o cycles =
+    record { count = min (s .running .count + cycles) cap; unknown = cond (occasion s o) 1 (s .running .unknown) }
+
+-- What an accepted operation does to the records. An event starts at the current level; an exception is controlled by
+-- the level that it enters, a return by the level that it leaves.
+unfoldable pub effectOf : State → Operation → ℕ → Effect
+effectOf s (Reset size v1p1) cycles = Start size
+effectOf s (Branch kind m source target) cycles =
+    made s (passed s (Branch kind m source target) cycles) (chosen (s .brbfcr) (record { code = kind }))
+    (record { kind = kind; mispredicted = m; left = s .level; entered = s .level; source = source; target = target })
+effectOf s (Exception kind level source target) cycles =
+    made s (passed s (Exception kind level source target) cycles) (controlled s level 23)
+    (record { kind = kind; mispredicted = 0; left = s .level; entered = level; source = source; target = target })
+effectOf s (Return level m source target) cycles =
+    made s (passed s (Return level m source target) cycles) (controlled s (s .level) 22)
+    (record { kind = returnType; mispredicted = m; left = s .level; entered = level; source = source; target = target })
+effectOf s (Platform p) cycles = Keep
+effectOf s (Read r) cycles = Keep
+effectOf s (Write r value) cycles = Keep
+effectOf s Iall cycles = cond (isPerformed (outcomeOf s Iall)) Clear Keep
+effectOf s Unknown cycles = Keep
+
+-- "A record takes it, that event's cycles included, then it restarts from 0." BRB IALL "lets the count run on". A reset's
+-- own cycles are dropped.
+abbrev pub runningAfter : Effect → Running → Running
+runningAfter Keep r = r
+runningAfter (Push new) r = record { count = 0; unknown = 0 }
+runningAfter Clear r = r
+runningAfter (Start size) r = runningAfterReset
+
+unfoldable pub stateAfter : State → Operation → ℕ → State
+stateAfter s o cycles = withRunning (runningAfter (effectOf s o cycles) (passed s o cycles)) (changed s o)
+
+-- The outcome of a step: its answer, and state and room as it leaves them.
+pub record Result : Type 0 where
+  pub answer : Answer
+  pub state : State
+  pub room : List ℕ
+
+unfoldable pub accepted : State → Operation → ℕ → List ℕ → Result
+accepted s o cycles room =
+    record {
+      answer = answered (outcomeOf s o) (performedAnswer s o room);
+      state = stateAfter s o cycles;
+      room = roomAfter (s .size) (effectOf s o cycles) room;
+    }
+
+-- "A refusal returns its number and the value 0 and leaves state and room untouched."
+abbrev pub refused : ℕ → State → List ℕ → Result
+refused n s room = record { answer = Refused n; state = s; room = room }
+
+-- The step: the first refusal whose condition holds, or the accepted operation.
+unfoldable pub stepOf : State → Operation → ℕ → List ℕ → Result
+stepOf s o cycles room =
+    cond (eqb (refusalOf s o (length room)) 0) (accepted s o cycles room) (refused (refusalOf s o (length room)) s room)

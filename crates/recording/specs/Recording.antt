@@ -1,0 +1,83 @@
+-- Document 01, "Recordings" and, of "Refusal numbers", what concerns reading and writing.
+use Prim.Native.Nat.{ℕ, zero, suc, _+_}
+use mathlib.Core.Bool.{Bool, cond}
+use mathlib.Core.List.{List, [], _∷_, _++_}
+use lib.Dec.{leb, ltb}
+use lib.ListN.{length, getD, take}
+use Rattle.number.specs.declared.Found.the-variants.{Value, Malformed, Ended}
+use Rattle.number.specs.Number.{numberAt, bytesOf, written}
+use Rattle.recording.specs.declared.Numbers.{Numbers}
+use Rattle.recording.specs.declared.Reading.{Reading}
+use Rattle.recording.specs.declared.Reading.the-variants.{Operation, UnknownCode}
+use Rattle.recording.specs.declared.Writing.{Writing}
+use Rattle.recording.specs.declared.Writing.the-variants.{Wrote, Refused}
+
+-- Document 01, "Operations": how many fields each code has.
+abbrev pub fieldCounts : List ℕ
+fieldCounts = 2 ∷ 4 ∷ 4 ∷ 4 ∷ 1 ∷ 1 ∷ 2 ∷ 0 ∷ []
+
+unfoldable pub fieldCount : ℕ → ℕ
+fieldCount code = getD fieldCounts code 0
+
+-- Several numbers read one after another: all of them and the place after the last, or where the first bad one starts.
+pub data Several : Type 0 where
+  got : List ℕ → ℕ → Several
+  bad : ℕ → Several
+
+abbrev pub inFront : ℕ → Several → Several
+inFront n (got list next) = got (n ∷ list) next
+inFront n (bad place) = bad place
+
+unfoldable pub numbersAt : ℕ → List ℕ → ℕ → Several
+numbersAt zero bytes at = got [] at
+numbersAt (suc k) bytes at =
+    elim (numberAt bytes at) [ Value n next ↦ inFront n (numbersAt k bytes next) | Malformed ↦ bad at | Ended ↦ bad at ]
+
+-- Cycles and fields of an operation whose code was read: "a reader gives 0" for numbers beyond its own fields.
+abbrev pub withFields : ℕ → Several → Reading
+withFields code (got list next) =
+    Operation
+    (record { code = code; cycles = getD list 0 0; a = getD list 1 0; b = getD list 2 0; c = getD list 3 0; d = getD list 4 0 })
+    next
+withFields code (bad place) = Reading.Malformed place
+
+-- "then the code is read (1, then 2), then all fields (1)"; cycles are read with the fields. "input ending inside an
+-- operation is 1"
+unfoldable pub operationAt : List ℕ → ℕ → Reading
+operationAt bytes at =
+    elim (numberAt bytes at) [
+      | Value code next ↦ cond (ltb 7 code) (UnknownCode at) (withFields code (numbersAt (1 + fieldCount code) bytes next))
+      | Malformed ↦ Reading.Malformed at
+      | Ended ↦ Reading.Malformed at
+    ]
+
+-- The bytes of several numbers, end to end.
+unfoldable pub bytesOfAll : List ℕ → List ℕ
+bytesOfAll [] = []
+bytesOfAll (n ∷ list) = bytesOf n ++ bytesOfAll list
+
+-- The bytes of an operation: its code, its cycles and its own fields.
+unfoldable pub operationBytes : Numbers → List ℕ
+operationBytes x =
+    bytesOfAll (x .code ∷ take (1 + fieldCount (x .code)) (x .cycles ∷ x .a ∷ x .b ∷ x .c ∷ x .d ∷ []))
+
+-- "The writer checks only 2, then 6, and answers the number of bytes it wrote."
+unfoldable pub writeRefusal : Numbers → ℕ → List ℕ → ℕ
+writeRefusal x at out =
+    cond (ltb 7 (x .code)) 2 (cond (ltb (length out) (at + length (operationBytes x))) 6 0)
+
+-- The lent bytes after the writer: on refusal nothing is written.
+unfoldable pub writtenOperation : Numbers → ℕ → List ℕ → List ℕ
+writtenOperation x at out = elim (writeRefusal x at out) [ zero ↦ written out at (operationBytes x) | suc n ↦ out ]
+
+unfoldable pub writingOf : Numbers → ℕ → List ℕ → Writing
+writingOf x at out = elim (writeRefusal x at out) [ zero ↦ Wrote (length (operationBytes x)) | suc n ↦ Refused (suc n) ]
+
+-- The answer as document 01's numbers: the refusal, or 0 and the bytes written.
+abbrev pub numberOfWriting : Writing → ℕ
+numberOfWriting (Wrote n) = 0
+numberOfWriting (Refused n) = n
+
+abbrev pub valueOfWriting : Writing → ℕ
+valueOfWriting (Wrote n) = n
+valueOfWriting (Refused n) = 0

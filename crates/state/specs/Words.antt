@@ -1,0 +1,37 @@
+-- The state as nine lent numbers (house): level, size, v1p1, P, BRBCR_EL1, BRBCR_EL2, BRBFCR_EL1, count, unknown.
+use Prim.Native.Nat.{ℕ}
+use mathlib.Core.Bool.{Bool, _&&_, _||_, not}
+use mathlib.Core.List.{List, [], _∷_, _++_}
+use lib.Dec.{leb}
+use lib.ListN.{length, getD, drop}
+use Rattle.state.specs.declared.State.{State}
+use Rattle.state.specs.Sound.{sound}
+
+abbrev pub stateNumbers : ℕ
+stateNumbers = 9
+
+-- The state that lent numbers hold.
+abbrev pub stateOf : List ℕ → State
+stateOf w =
+    record {
+      level = getD w 0 0;
+      size = getD w 1 0;
+      v1p1 = getD w 2 0;
+      p = getD w 3 0;
+      brbcr1 = getD w 4 0;
+      brbcr2 = getD w 5 0;
+      brbfcr = getD w 6 0;
+      running = record { count = getD w 7 0; unknown = getD w 8 0 };
+    }
+
+abbrev pub wordsOf : State → List ℕ
+wordsOf s =
+    s .level ∷ s .size ∷ s .v1p1 ∷ s .p ∷ s .brbcr1 ∷ s .brbcr2 ∷ s .brbfcr ∷ s .running .count ∷ s .running .unknown ∷ []
+
+-- Lent numbers once the state is stored: those past the needed ones are as they were.
+abbrev pub stored : State → List ℕ → List ℕ
+stored s w = wordsOf s ++ drop stateNumbers w
+
+-- Refusal 7 is given exactly when the lent memory is too short or what it holds is not sound.
+unfoldable pub soundWords : List ℕ → Bool
+soundWords w = leb stateNumbers (length w) && sound (stateOf w)
