@@ -19,7 +19,7 @@ use Rattle.event.specs.Event.{controlled, valid, countUnknown, MPRED, BRBINF, r
 use Rattle.access.specs.Access.{permit, trapped2, trapped3, outcome, readOutcome, writeOutcome, meant, shownRecord, registerValue, registerWritten}
 use Rattle.operation.specs.Operation.{operationOf, codeOf}
 use Rattle.operation.specs.Refusal.{unknownCode, notReset, outsideList, notPermitted, sizeAfter, roomTooShort, refusalOf}
-use Rattle.recorder.specs.Step.{outcomeOf, performedAnswer, changed, occasion, passed, effectOf, stateAfter, accepted, stepOf}
+use Rattle.recorder.specs.Step.{iallOutcome, answerOf, changed, occasion, passed, effectOf, stateAfter, accepted, stepOf}
 use Rattle.recording.specs.Recording.{fieldCount, numbersAt, operationAt, bytesOfAll, operationBytes}
 use Rattle.recording.specs.RecordedStep.{recordedStep}
 use Rattle.line.specs.Line.{hexDigits, decimalIn, decimal, lineOf, replayFrom, replayOf}
@@ -89,5 +89,5 @@ cases =
     ∷ []
 
 pub marked : map computed cases ≡ cases
-unfolding bitLength exponent mantissa encoded countOf decoded numberIn numberAt bytesIn bytesOf EL2Enabled EL3Recorded counting predictionShown closed sound records numbered pushed cleared roomAfter enabled securelyProhibited prohibited filterBit chosen controlled valid countUnknown MPRED BRBINF recordOf made permit trapped2 trapped3 outcome readOutcome writeOutcome meant shownRecord registerValue registerWritten operationOf codeOf unknownCode notReset outsideList notPermitted sizeAfter roomTooShort refusalOf outcomeOf performedAnswer changed occasion passed effectOf stateAfter accepted stepOf fieldCount numbersAt operationAt bytesOfAll operationBytes recordedStep hexDigits decimalIn decimal lineOf replayFrom replayOf
+unfolding bitLength exponent mantissa encoded countOf decoded numberIn numberAt bytesIn bytesOf EL2Enabled EL3Recorded counting predictionShown closed sound records numbered pushed cleared roomAfter enabled securelyProhibited prohibited filterBit chosen controlled valid countUnknown MPRED BRBINF recordOf made permit trapped2 trapped3 outcome readOutcome writeOutcome meant shownRecord registerValue registerWritten operationOf codeOf unknownCode notReset outsideList notPermitted sizeAfter roomTooShort refusalOf iallOutcome answerOf changed occasion passed effectOf stateAfter accepted stepOf fieldCount numbersAt operationAt bytesOfAll operationBytes recordedStep hexDigits decimalIn decimal lineOf replayFrom replayOf
 marked = refl

@@ -43,30 +43,7 @@ valueOf Answer.Trap2 = 0
 valueOf Answer.Trap3 = 0
 valueOf (Refused n) = 0
 
--- How an operation ends. Only reads, writes and BRB IALL can be undefined or trapped.
-unfoldable pub outcomeOf : State → Operation → Outcome
-outcomeOf s (Reset size v1p1) = Performed
-outcomeOf s (Branch kind m source target) = Performed
-outcomeOf s (Exception kind level source target) = Performed
-outcomeOf s (Return level m source target) = Performed
-outcomeOf s (Platform p) = Performed
-outcomeOf s (Read r) = readOutcome s r
-outcomeOf s (Write r value) = writeOutcome s r
-outcomeOf s Iall = outcome s false nBRBIALL
-outcomeOf s Unknown = Performed
-
--- What a performed operation answers: a read its value, any other nothing.
-unfoldable pub performedAnswer : State → Operation → List ℕ → Answer
-performedAnswer s (Reset size v1p1) room = Done
-performedAnswer s (Branch kind m source target) room = Done
-performedAnswer s (Exception kind level source target) room = Done
-performedAnswer s (Return level m source target) room = Done
-performedAnswer s (Platform p) room = Done
-performedAnswer s (Read r) room = Value (registerValue s (records (s .size) room) (meant s r))
-performedAnswer s (Write r value) room = Done
-performedAnswer s Iall room = Done
-performedAnswer s Unknown room = Done
-
+-- What an access answers: what it answers where it is performed, or how it ended.
 abbrev pub answered : Outcome → Answer → Answer
 answered Performed a = a
 answered Undefined a = Answer.Undefined
@@ -78,6 +55,22 @@ isPerformed Performed = true
 isPerformed Undefined = false
 isPerformed Trap2 = false
 isPerformed Trap3 = false
+
+-- BRB IALL is an access by nBRBIALL.
+unfoldable pub iallOutcome : State → Outcome
+iallOutcome s = outcome s false nBRBIALL
+
+-- What an accepted operation answers. Only reads, writes and BRB IALL can be undefined or trapped.
+unfoldable pub answerOf : State → Operation → List ℕ → Answer
+answerOf s (Reset size v1p1) room = Done
+answerOf s (Branch kind m source target) room = Done
+answerOf s (Exception kind level source target) room = Done
+answerOf s (Return level m source target) room = Done
+answerOf s (Platform p) room = Done
+answerOf s (Read r) room = answered (readOutcome s r) (Value (registerValue s (records (s .size) room) (meant s r)))
+answerOf s (Write r value) room = answered (writeOutcome s r) Done
+answerOf s Iall room = answered (iallOutcome s) Done
+answerOf s Unknown room = Done
 
 -- The state once the operation has set level, P or registers; the running count is not yet touched, but by a reset.
 unfoldable pub changed : State → Operation → State
@@ -118,7 +111,7 @@ effectOf s (Return level m source target) cycles =
 effectOf s (Platform p) cycles = Keep
 effectOf s (Read r) cycles = Keep
 effectOf s (Write r value) cycles = Keep
-effectOf s Iall cycles = cond (isPerformed (outcomeOf s Iall)) Clear Keep
+effectOf s Iall cycles = cond (isPerformed (iallOutcome s)) Clear Keep
 effectOf s Unknown cycles = Keep
 
 -- "A record takes it, that event's cycles included, then it restarts from 0." BRB IALL "lets the count run on". A reset's
@@ -141,7 +134,7 @@ pub record Result : Type 0 where
 unfoldable pub accepted : State → Operation → ℕ → List ℕ → Result
 accepted s o cycles room =
     record {
-      answer = answered (outcomeOf s o) (performedAnswer s o room);
+      answer = answerOf s o room;
       state = stateAfter s o cycles;
       room = roomAfter (s .size) (effectOf s o cycles) room;
     }

@@ -13,11 +13,8 @@ use Rattle.recording.specs.declared.Writing.{Writing}
 use Rattle.recording.specs.declared.Writing.the-variants.{Wrote, Refused}
 
 -- Document 01, "Operations": how many fields each code has.
-abbrev pub fieldCounts : List ℕ
-fieldCounts = 2 ∷ 4 ∷ 4 ∷ 4 ∷ 1 ∷ 1 ∷ 2 ∷ 0 ∷ []
-
 unfoldable pub fieldCount : ℕ → ℕ
-fieldCount code = getD fieldCounts code 0
+fieldCount code = getD (2 ∷ 4 ∷ 4 ∷ 4 ∷ 1 ∷ 1 ∷ 2 ∷ 0 ∷ []) code 0
 
 -- Several numbers read one after another: all of them and the place after the last, or where the first bad one starts.
 pub data Several : Type 0 where
