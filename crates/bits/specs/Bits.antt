@@ -28,4 +28,4 @@ within mask x = eqb (bitAnd x mask) x
 -- x stands in the list.
 abbrev pub oneOf : List ℕ → ℕ → Bool
 oneOf [] x = false
-oneOf (y ∷ ys) x = eqb x y || oneOf ys x
+oneOf (y ∷ ys) x = oneOf ys x || eqb x y

@@ -10,10 +10,9 @@ use Rattle.line.specs.Line.{bytesOfText}
 use Rattle.recording.specs.declared.Numbers.{Numbers}
 use Rattle.count.specs.Count.{bitLength, exponent, mantissa, encoded, countOf, decoded}
 use Rattle.number.specs.Number.{numberIn, numberAt, bytesIn, bytesOf}
-use Rattle.state.specs.Named.{EL2Enabled, EL3Recorded, counting, predictionShown}
 use Rattle.state.specs.Sound.{closed, sound}
 use Rattle.room.specs.Room.{records, numbered, pushed, cleared, roomAfter}
-use Rattle.region.specs.Region.{enabled, securelyProhibited, prohibited}
+use Rattle.region.specs.Region.{enabled, prohibited}
 use Rattle.filter.specs.Filter.{filterBit, chosen}
 use Rattle.event.specs.Event.{controlled, valid, countUnknown, MPRED, BRBINF, recordOf, made}
 use Rattle.access.specs.Access.{permit, trapped2, trapped3, outcome, readOutcome, writeOutcome, meant, shownRecord, registerValue, registerWritten}
@@ -89,5 +88,5 @@ cases =
     ∷ []
 
 pub marked : map computed cases ≡ cases
-unfolding bitLength exponent mantissa encoded countOf decoded numberIn numberAt bytesIn bytesOf EL2Enabled EL3Recorded counting predictionShown closed sound records numbered pushed cleared roomAfter enabled securelyProhibited prohibited filterBit chosen controlled valid countUnknown MPRED BRBINF recordOf made permit trapped2 trapped3 outcome readOutcome writeOutcome meant shownRecord registerValue registerWritten operationOf codeOf unknownCode notReset outsideList notPermitted sizeAfter roomTooShort refusalOf iallOutcome answerOf changed occasion passed effectOf stateAfter accepted stepOf fieldCount numbersAt operationAt bytesOfAll operationBytes recordedStep hexDigits decimalIn decimal lineOf replayFrom replayOf
+unfolding bitLength exponent mantissa encoded countOf decoded numberIn numberAt bytesIn bytesOf closed sound records numbered pushed cleared roomAfter enabled prohibited filterBit chosen controlled valid countUnknown MPRED BRBINF recordOf made permit trapped2 trapped3 outcome readOutcome writeOutcome meant shownRecord registerValue registerWritten operationOf codeOf unknownCode notReset outsideList notPermitted sizeAfter roomTooShort refusalOf iallOutcome answerOf changed occasion passed effectOf stateAfter accepted stepOf fieldCount numbersAt operationAt bytesOfAll operationBytes recordedStep hexDigits decimalIn decimal lineOf replayFrom replayOf
 marked = refl

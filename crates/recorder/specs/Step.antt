@@ -8,7 +8,6 @@ use Rattle.state.specs.declared.State.{State}
 use Rattle.state.specs.declared.Running.{Running}
 use Rattle.state.specs.Named.{nBRBIALL, counting, PAUSED, runningAfterReset, afterReset, atLevel, withPlatform, withRunning}
 use Rattle.state.specs.Sound.{cap}
-use Rattle.state.specs.Words.{stateOf, stored, soundWords}
 use Rattle.room.specs.declared.Effect.{Effect}
 use Rattle.room.specs.declared.Effect.the-variants.{Keep, Push, Clear, Start}
 use Rattle.room.specs.Room.{records, roomAfter}

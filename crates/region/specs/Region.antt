@@ -15,7 +15,7 @@ enabled s level =
     (cond (TGE s && EL2Enabled s) (isSet 0 (s .brbcr2)) (isSet 0 (s .brbcr1))))
 
 -- "Below EL3: always with SBRBE 0; with SBRBE 1 when NS is 0."
-unfoldable pub securelyProhibited : State → Bool
+abbrev pub securelyProhibited : State → Bool
 securelyProhibited s = eqb (SBRBE s) 0 || eqb (SBRBE s) 1 && not (NS s)
 
 -- Recording is prohibited at the level. "EL3: unless v1p1 and P bit 6 are both 1." R_GLKGW. "A 0 prohibits."

@@ -1,7 +1,7 @@
 -- The records as a list, newest first, and their places in the lent room. Document 01, "Which events become records",
 -- last paragraph: "In the room, record r is BRBINF, BRBSRC, BRBTGT at 3r."
 use Prim.Native.Nat.{ℕ, zero, suc, _+_, _*_, _-_}
-use mathlib.Core.Bool.{Bool}
+use mathlib.Core.Bool.{cond, _&&_}
 use mathlib.Core.List.{List, [], _∷_, _++_}
 use lib.Dec.{leb}
 use lib.ListN.{length, getD, take, drop, replicate}
@@ -29,14 +29,17 @@ numbered r list = getD list r zeroRecord
 abbrev pub needed : ℕ → ℕ
 needed size = 3 * size
 
--- "A new record becomes number 0, the others move up one, the oldest of a full buffer is lost."
--- Numbers past the needed room are as they were.
+-- "A new record becomes number 0, the others move up one, the oldest of a full buffer is lost." Numbers past the needed
+-- room are as they were. A room that is too short, which refusal 6 keeps away, is left alone.
 unfoldable pub pushed : ℕ → Record → List ℕ → List ℕ
-pushed size r room = r .inf ∷ r .source ∷ r .target ∷ (take (needed size - 3) room ++ drop (needed size) room)
+pushed size r room =
+    cond (leb 1 size && leb (needed size) (length room))
+    (r .inf ∷ r .source ∷ r .target ∷ (take (needed size - 3) room ++ drop (needed size) room))
+    room
 
--- Every record is zero. Numbers past the needed room are as they were.
+-- Every record is zero. Numbers past the needed room are as they were, and so is a room that is too short.
 unfoldable pub cleared : ℕ → List ℕ → List ℕ
-cleared size room = replicate (needed size) 0 ++ drop (needed size) room
+cleared size room = cond (leb (needed size) (length room)) (replicate (needed size) 0 ++ drop (needed size) room) room
 
 -- The room after an effect, where the state's size before it was the given one.
 unfoldable pub roomAfter : ℕ → Effect → List ℕ → List ℕ

@@ -46,19 +46,19 @@ abbrev pub nBRBIALL : ℕ
 nBRBIALL = 13
 
 -- "EL2 is enabled when NS or EEL2 is 1."
-unfoldable pub EL2Enabled : State → Bool
+abbrev pub EL2Enabled : State → Bool
 EL2Enabled s = NS s || EEL2 s
 
 -- "v1p1 and P bit 6 are both 1": self-hosted EL3 branch recording is enabled (R_JWWFY).
-unfoldable pub EL3Recorded : State → Bool
+abbrev pub EL3Recorded : State → Bool
 EL3Recorded s = eqb (s .v1p1) 1 && EL3Recording s
 
 -- Document 01, "Cycles": counting is on. Bit 3 (CC) of BRBCR_EL1 and of BRBCR_EL2, R_MJDLC.
-unfoldable pub counting : State → Bool
+abbrev pub counting : State → Bool
 counting s = isSet 3 (s .brbcr1) && isSet 3 (s .brbcr2)
 
 -- Bit 4 (MPRED) of BRBCR_EL1 and of BRBCR_EL2, R_XHWRB.
-unfoldable pub predictionShown : State → Bool
+abbrev pub predictionShown : State → Bool
 predictionShown s = isSet 4 (s .brbcr1) && isSet 4 (s .brbcr2)
 
 -- BRBFCR_EL1 bit 7.

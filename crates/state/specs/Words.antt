@@ -1,10 +1,12 @@
 -- The state as nine lent numbers (house): level, size, v1p1, P, BRBCR_EL1, BRBCR_EL2, BRBFCR_EL1, count, unknown.
 use Prim.Native.Nat.{ℕ}
-use mathlib.Core.Bool.{Bool, _&&_, _||_, not}
+use mathlib.Core.Bool.{Bool, cond, _&&_}
 use mathlib.Core.List.{List, [], _∷_, _++_}
 use lib.Dec.{leb}
 use lib.ListN.{length, getD, drop}
 use Rattle.state.specs.declared.State.{State}
+use Rattle.state.specs.declared.Loaded.{Loaded}
+use Rattle.state.specs.declared.Loaded.the-variants.{Held, Unsound}
 use Rattle.state.specs.Sound.{sound}
 
 abbrev pub stateNumbers : ℕ
@@ -28,10 +30,10 @@ abbrev pub wordsOf : State → List ℕ
 wordsOf s =
     s .level ∷ s .size ∷ s .v1p1 ∷ s .p ∷ s .brbcr1 ∷ s .brbcr2 ∷ s .brbfcr ∷ s .running .count ∷ s .running .unknown ∷ []
 
--- Lent numbers once the state is stored: those past the needed ones are as they were.
-abbrev pub stored : State → List ℕ → List ℕ
-stored s w = wordsOf s ++ drop stateNumbers w
+-- Lent numbers once the state is stored: those past the needed ones are as they were. Too few are left alone.
+unfoldable pub stored : State → List ℕ → List ℕ
+stored s w = cond (leb stateNumbers (length w)) (wordsOf s ++ drop stateNumbers w) w
 
--- Refusal 7 is given exactly when the lent memory is too short or what it holds is not sound.
-unfoldable pub soundWords : List ℕ → Bool
-soundWords w = leb stateNumbers (length w) && sound (stateOf w)
+-- The sound state that lent numbers hold. Refusal 7 is given exactly when they are too few or what they hold is not sound.
+unfoldable pub loaded : List ℕ → Loaded
+loaded w = cond (leb stateNumbers (length w) && sound (stateOf w)) (Held (stateOf w)) Unsound

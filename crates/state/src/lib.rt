@@ -1,4 +1,40 @@
 // The state of the model (document 01, "Operations" and refusal 7).
+ghost use mathlib.Core.Path.{_≡_};
+ghost use mathlib.Core.Bool.{Bool};
+ghost use Rattle.state.specs.Named.{EL2Enabled, EL3Recorded, counting, predictionShown, PAUSED, BANK};
+ghost use Rattle.state.specs.Sound.{closed, sound};
+ghost use Rattle.state.specs.Words.{stored, loaded};
+
+// P's bits by name (house layout), each as the power of two that it weighs: bit k of x is x / 2^k % 2.
+const NS: u64 = 0x1;
+
+const EEL2: u64 = 0x2;
+
+const TGE: u64 = 0x4;
+
+const EL3_RECORDING: u64 = 0x40;
+
+// Bits of BRBCR_EL1 and BRBCR_EL2, and of BRBFCR_EL1.
+const CC: u64 = 0x8;
+
+const MPRED: u64 = 0x10;
+
+const PAUSED: u64 = 0x80;
+
+const BANK: u64 = 0x1000_0000;
+
+// The bits that writes keep, and those that P may have.
+pub const PLATFORM_MASK: u64 = 0x3F7F;
+
+pub const CONTROL_MASK: u64 = 0xC0017B;
+
+pub const FILTER_MASK: u64 = 0x307F0080;
+
+// Where the running count stops.
+pub const CAP: u64 = 1_048_576;
+
+// How many lent numbers hold a state.
+pub const STATE_NUMBERS: usize = 9;
 
 // The running count (document 01, "Cycles"), and whether the next record's count is unknown.
 pub struct Running {
@@ -18,4 +54,122 @@ pub struct State {
     pub brbcr2: u64,
     pub brbfcr: u64,
     pub running: Running,
+}
+
+impl State {
+    pub fn el2_enabled(self) -> bool
+        ensures { λ r. ⌜ r ≡ EL2Enabled self ⌝ }
+    {
+        (self.p / NS % 2 == 1) | (self.p / EEL2 % 2 == 1)
+    }
+
+    // Self-hosted EL3 branch recording is enabled.
+    pub fn el3_recorded(self) -> bool
+        ensures { λ r. ⌜ r ≡ EL3Recorded self ⌝ }
+    {
+        (self.v1p1 == 1) & (self.p / EL3_RECORDING % 2 == 1)
+    }
+
+    pub fn counting(self) -> bool
+        ensures { λ r. ⌜ r ≡ counting self ⌝ }
+    {
+        (self.brbcr1 / CC % 2 == 1) & (self.brbcr2 / CC % 2 == 1)
+    }
+
+    pub fn prediction_shown(self) -> bool
+        ensures { λ r. ⌜ r ≡ predictionShown self ⌝ }
+    {
+        (self.brbcr1 / MPRED % 2 == 1) & (self.brbcr2 / MPRED % 2 == 1)
+    }
+
+    pub fn paused(self) -> bool
+        ensures { λ r. ⌜ r ≡ PAUSED self ⌝ }
+    {
+        self.brbfcr / PAUSED % 2 == 1
+    }
+
+    pub fn bank(self) -> u64
+        ensures { λ r. ⌜ r ≡ BANK self ⌝ }
+    {
+        self.brbfcr / BANK % 4
+    }
+
+    // No state is at such a level, and no event enters it.
+    pub fn closed(self, level: u64) -> bool
+        ensures { λ r. ⌜ r ≡ closed self level ⌝ }
+    {
+        let enabled = self.el2_enabled();
+        (level == 2) & !enabled | (level == 1) & (self.p / TGE % 2 == 1) & enabled
+    }
+
+    // None of refusal 7's conditions holds.
+    pub fn sound(self) -> bool
+        ensures { λ r. ⌜ r ≡ sound self ⌝ }
+    {
+        let size = self.size;
+        let running = self.running;
+        let listed = (self.level <= 3)
+            & ((size == 64) | (size == 32) | (size == 16) | (size == 8) | (size == 0))
+            & (self.v1p1 <= 1)
+            & (self.p & PLATFORM_MASK == self.p)
+            & (self.brbcr1 & CONTROL_MASK == self.brbcr1)
+            & (self.brbcr2 & CONTROL_MASK == self.brbcr2)
+            & (self.brbfcr & FILTER_MASK == self.brbfcr);
+        let closed = self.closed(self.level);
+        listed & !closed & (running.count <= CAP) & (running.unknown <= 1)
+    }
+}
+
+// What lent numbers hold.
+pub enum Loaded {
+    Held(State),
+    // Refusal 7.
+    Unsound,
+}
+
+// The sound state in lent numbers, if there is one.
+pub fn load(words: &[u64]) -> Loaded
+    ensures { λ r. ⌜ r ≡ loaded (now (words .entry)) ⌝ }
+{
+    if words.len() < STATE_NUMBERS {
+        return Loaded::Unsound;
+    }
+    let running = Running {
+        count: words[7],
+        unknown: words[8],
+    };
+    let s = State {
+        level: words[0],
+        size: words[1],
+        v1p1: words[2],
+        p: words[3],
+        brbcr1: words[4],
+        brbcr2: words[5],
+        brbfcr: words[6],
+        running,
+    };
+    if s.sound() {
+        Loaded::Held(s)
+    } else {
+        Loaded::Unsound
+    }
+}
+
+// The state into lent numbers; none is written where they are too few.
+pub fn store(words: &mut [u64], s: State)
+    ensures { λ _. ⌜ now (words .exit) ≡ stored s (now (words .entry)) ⌝ }
+{
+    if words.len() < STATE_NUMBERS {
+        return;
+    }
+    let running = s.running;
+    words[0] = s.level;
+    words[1] = s.size;
+    words[2] = s.v1p1;
+    words[3] = s.p;
+    words[4] = s.brbcr1;
+    words[5] = s.brbcr2;
+    words[6] = s.brbfcr;
+    words[7] = running.count;
+    words[8] = running.unknown;
 }

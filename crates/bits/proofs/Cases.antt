@@ -1,0 +1,20 @@
+-- What proofs go by cases on.
+use Prim.Native.Nat.{ℕ, _<_, _≤_}
+use mathlib.Core.Path.{_≡_, refl}
+use mathlib.Core.Bool.{Bool, true, false}
+use mathlib.Core.Logic.{_⊎_, inl, inr}
+use borrow.Author.Tests.{ltb-true, ltb-false}
+use lib.Dec.{ltb}
+
+-- A test holds or it does not.
+pub either : (t : Bool) → (t ≡ true) ⊎ (t ≡ false)
+either true = inl refl
+either false = inr refl
+
+-- A number is below another or it is not.
+pub below-or-not : (a b : ℕ) → (a < b) ⊎ (b ≤ a)
+below-or-not a b = go (ltb a b) refl
+  where
+    go : (t : Bool) → ltb a b ≡ t → (a < b) ⊎ (b ≤ a)
+    go true e = inl (ltb-true a b e)
+    go false e = inr (ltb-false a b e)

@@ -1,0 +1,12 @@
+-- The filter, as defined: a bit at a variable place is a shift, and the place is below 64.
+use borrow.Author.Needs.{needs}
+use Rattle.filter.specs.Filter.{chosen}
+use Rattle.filter.proofs.BranchType.chosen.Statement.{statement}
+use Rattle.filter.proofs.BranchType.chosen.Tie as tie
+
+returns : tie.Need-returns
+unfolding chosen
+returns c = rw (← c .filter-bit .ensures .0)
+
+pub chosen-spec : {M : Type 1} → statement M
+chosen-spec = tie.close (tie.spec (λ _ _. tt) (λ c. search needs) returns)

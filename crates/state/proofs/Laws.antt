@@ -1,0 +1,23 @@
+-- A state that is stored is the state that is loaded, and lent numbers into which their own state is stored are as they were.
+use Prim.Native.Nat.{ℕ, _≤_, _<_}
+use mathlib.Core.Path.{_≡_, sym, _∙_}
+use mathlib.Core.List.{List}
+use mathlib.Core.Logic.{⊎-elim}
+use native.Mathlib.Omega.{arith}
+use borrow.Author.Tests.{lt-leb, le-leb}
+use lib.ListN.{length}
+use lib.Seq.{sets-eq, set-getD}
+use Rattle.bits.proofs.Cases.{below-or-not}
+use Rattle.state.specs.declared.State.{State}
+use Rattle.state.specs.Words.{stateOf, wordsOf, stored}
+
+pub load-stored : (s : State) (w : List ℕ) → 9 ≤ length w → stateOf (stored s w) ≡ s
+unfolding stored
+load-stored s w enough = rw (le-leb 9 (length w) enough)
+
+pub stored-loaded : (w : List ℕ) → stored (stateOf w) w ≡ w
+unfolding stored
+stored-loaded w =
+    ⊎-elim (λ (few : length w < 9). rw (lt-leb 9 (length w) few))
+    (λ (enough : 9 ≤ length w). rw (le-leb 9 (length w) enough) (sym (sets-eq (wordsOf (stateOf w)) w 0 (omega arith)) ∙ simp set-getD))
+    (below-or-not (length w) 9)
