@@ -3,12 +3,11 @@ use Prim.Native.Nat.{ℕ, _+_, _*_, _/_, _%_}
 use mathlib.Core.Bool.{Bool, true, false, cond, _&&_, _||_, not}
 use lib.Dec.{eqb, leb}
 use mathlib.Core.List.{List}
-use Rattle.bits.specs.Bits.{isSet}
 use Rattle.state.specs.declared.State.{State}
 use Rattle.state.specs.Named.{NS, E2H, SBRBE, FGTEn, nBRBDATA, nBRBCTLRead, nBRBCTLWrite, nBRBIDR, EL2Enabled, BANK}
 use Rattle.state.specs.Sound.{kept, controlMask, filterMask}
 use Rattle.room.specs.declared.Record.{Record}
-use Rattle.room.specs.Room.{records, numbered}
+use Rattle.room.specs.Room.{numbered}
 use Rattle.access.specs.declared.Outcome.{Outcome}
 use Rattle.access.specs.declared.Outcome.the-variants.{Performed, Undefined, Trap2, Trap3}
 
@@ -22,44 +21,48 @@ isRegister r = leb r 3 || isRecordRegister r
 
 -- The bit of P that permits an access to the register at EL1: "nBRBDATA records, nBRBIDR register 0, nBRBCTL registers 1
 -- and 3".
-unfoldable pub permit : Bool → ℕ → ℕ
-permit writing r = cond (isRecordRegister r) nBRBDATA (cond (eqb r 0) nBRBIDR (cond writing nBRBCTLWrite nBRBCTLRead))
+unfoldable pub permitted : State → Bool → ℕ → Bool
+permitted s writing r =
+    cond (isRecordRegister r) (nBRBDATA s) (cond (eqb r 0) (nBRBIDR s) (cond writing (nBRBCTLWrite s) (nBRBCTLRead s)))
 
 -- "at EL1, if EL2 is enabled, FGTEn is 1 and the matching n-bit is 0: trap to EL2"
-unfoldable pub trapped2 : State → ℕ → Bool
-trapped2 s n = eqb (s .level) 1 && EL2Enabled s && FGTEn s && not (isSet n (s .p))
+unfoldable pub trapped2 : State → Bool → Bool
+trapped2 s nbit = eqb (s .level) 1 && EL2Enabled s && FGTEn s && not nbit
 
 -- "at EL1 and EL2: trap to EL3 if NS 0 and SBRBE is not 3, or NS 1 and SBRBE is 0 or 2"
-unfoldable pub trapped3 : State → Bool
-trapped3 s = (eqb (s .level) 1 || eqb (s .level) 2) && cond (NS s) (eqb (SBRBE s) 0 || eqb (SBRBE s) 2) (not (eqb (SBRBE s) 3))
+abbrev pub trapped3 : State → Bool
+trapped3 s =
+    (eqb (s .level) 1 || eqb (s .level) 2)
+    && (not (NS s) && not (eqb (SBRBE s) 3) || NS s && (eqb (SBRBE s) 0 || eqb (SBRBE s) 2))
 
 -- "EL0: UNDEFINED." Then what is undefined of the access itself, then the traps. "EL3 has no traps."
-unfoldable pub outcome : State → Bool → ℕ → Outcome
-outcome s undefined n = cond (eqb (s .level) 0 || undefined) Undefined (cond (trapped2 s n) Trap2 (cond (trapped3 s) Trap3 Performed))
+unfoldable pub outcome : State → Bool → Bool → Outcome
+outcome s undefined nbit =
+    cond (eqb (s .level) 0 || undefined) Undefined (cond (trapped2 s nbit) Trap2 (cond (trapped3 s) Trap3 Performed))
 
 -- "Register 2 at EL1: UNDEFINED."
 abbrev pub hiddenRegister : State → ℕ → Bool
 hiddenRegister s r = eqb (s .level) 1 && eqb r 2
 
 unfoldable pub readOutcome : State → ℕ → Outcome
-readOutcome s r = outcome s (hiddenRegister s r) (permit false r)
+readOutcome s r = outcome s (hiddenRegister s r) (permitted s false r)
 
 -- "Writing 0 or a record register: UNDEFINED."
 unfoldable pub writeOutcome : State → ℕ → Outcome
-writeOutcome s r = outcome s (eqb r 0 || isRecordRegister r || hiddenRegister s r) (permit true r)
+writeOutcome s r = outcome s (eqb r 0 || isRecordRegister r || hiddenRegister s r) (permitted s true r)
 
 -- "At EL2 with E2H 1, register 1 means register 2."
-unfoldable pub meant : State → ℕ → ℕ
+abbrev pub meant : State → ℕ → ℕ
 meant s r = cond (eqb (s .level) 2 && E2H s && eqb r 1) 2 r
 
 -- "A record read shows number m + 32 × BANK, or 0 if that is not below the size." The list has `size` records.
 unfoldable pub shownRecord : State → List Record → ℕ → Record
 shownRecord s list r = numbered (r % 32 + 32 * BANK s) list
 
--- "BRBIDR0_EL1 reads 0x5000 plus the size."
+-- "BRBIDR0_EL1 reads 0x5000 plus the size." Its field NUMREC has eight bits.
 unfoldable pub registerValue : State → List Record → ℕ → ℕ
 registerValue s list r =
-    cond (eqb r 0) (0x5000 + s .size)
+    cond (eqb r 0) (0x5000 + s .size % 256)
     (cond (eqb r 1) (s .brbcr1)
     (cond (eqb r 2) (s .brbcr2)
     (cond (eqb r 3) (s .brbfcr)

@@ -1,4 +1,30 @@
 // Accesses to registers and BRB IALL (document 01, "Access outcomes").
+ghost use mathlib.Core.Path.{_≡_};
+ghost use mathlib.Core.Bool.{true, false};
+ghost use Rattle.room.specs.Room.{records};
+ghost use Rattle.access.specs.Access.{permitted, trapped2, trapped3, outcome, readOutcome, writeOutcome, meant, registerValue, registerWritten};
+use bits::pick;
+use bits::pick_bool;
+use state::CONTROL_MASK;
+use state::FILTER_MASK;
+use state::State;
+
+// Bits of P, each as the power of two that it weighs.
+const NS: u64 = 0x1;
+
+const E2H: u64 = 0x8;
+
+const SBRBE: u64 = 0x10;
+
+const FGTEN: u64 = 0x100;
+
+const NBRBDATA: u64 = 0x200;
+
+const NBRBCTL_READ: u64 = 0x400;
+
+const NBRBCTL_WRITE: u64 = 0x800;
+
+const NBRBIDR: u64 = 0x1000;
 
 // How an access ends.
 pub enum Outcome {
@@ -8,4 +34,87 @@ pub enum Outcome {
     Trap2,
     // Trapped to EL3.
     Trap3,
+}
+
+// The bit of P that permits an access to the register at EL1.
+fn permitted(s: State, writing: bool, r: u64) -> bool
+    ensures { λ x. ⌜ x ≡ permitted s writing r ⌝ }
+{
+    let control = pick_bool(
+        writing,
+        s.p / NBRBCTL_WRITE % 2 == 1,
+        s.p / NBRBCTL_READ % 2 == 1,
+    );
+    let setting = pick_bool(r == 0, s.p / NBRBIDR % 2 == 1, control);
+    pick_bool((32 <= r) & (r <= 127), s.p / NBRBDATA % 2 == 1, setting)
+}
+
+fn trapped2(s: State, nbit: bool) -> bool
+    ensures { λ x. ⌜ x ≡ trapped2 s nbit ⌝ }
+{
+    let enabled = s.el2_enabled();
+    (s.level == 1) & enabled & (s.p / FGTEN % 2 == 1) & !nbit
+}
+
+fn trapped3(s: State) -> bool
+    ensures { λ x. ⌜ x ≡ trapped3 s ⌝ }
+{
+    let sbrbe = s.p / SBRBE % 4;
+    let ns = s.p / NS % 2 == 1;
+    ((s.level == 1) | (s.level == 2)) & (!ns & !(sbrbe == 3) | ns & ((sbrbe == 0) | (sbrbe == 2)))
+}
+
+// How an access ends, where `undefined` says what is undefined of the access itself, and `nbit` is its n-bit of P.
+pub fn access_outcome(s: State, undefined: bool, nbit: bool) -> Outcome
+    ensures { λ x. ⌜ x ≡ outcome s undefined nbit ⌝ }
+{
+    if (s.level == 0) | undefined {
+        return Outcome::Undefined;
+    }
+    if trapped2(s, nbit) {
+        return Outcome::Trap2;
+    }
+    if trapped3(s) {
+        return Outcome::Trap3;
+    }
+    Outcome::Performed
+}
+
+pub fn read_outcome(s: State, r: u64) -> Outcome
+    ensures { λ x. ⌜ x ≡ readOutcome s r ⌝ }
+{
+    let nbit = permitted(s, false, r);
+    access_outcome(s, (s.level == 1) & (r == 2), nbit)
+}
+
+pub fn write_outcome(s: State, r: u64) -> Outcome
+    ensures { λ x. ⌜ x ≡ writeOutcome s r ⌝ }
+{
+    let nbit = permitted(s, true, r);
+    let undefined = (r == 0) | (32 <= r) & (r <= 127) | (s.level == 1) & (r == 2);
+    access_outcome(s, undefined, nbit)
+}
+
+// The register that an access means.
+pub fn meant(s: State, r: u64) -> u64
+    ensures { λ x. ⌜ x ≡ meant s r ⌝ }
+{
+    pick((s.level == 2) & (s.p / E2H % 2 == 1) & (r == 1), 2, r)
+}
+
+// A performed write keeps only the register's bits.
+pub fn register_written(s: State, r: u64, value: u64) -> State
+    ensures { λ x. ⌜ x ≡ registerWritten s r value ⌝ }
+{
+    let running = s.running;
+    State {
+        level: s.level,
+        size: s.size,
+        v1p1: s.v1p1,
+        p: s.p,
+        brbcr1: pick(r == 1, value & CONTROL_MASK, s.brbcr1),
+        brbcr2: pick(r == 2, value & CONTROL_MASK, s.brbcr2),
+        brbfcr: pick(r == 3, value & FILTER_MASK, s.brbfcr),
+        running,
+    }
 }

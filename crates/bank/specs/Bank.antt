@@ -1,7 +1,7 @@
 -- Document 01, "Access outcomes", last paragraph: "a bank view holds a reference to the lent records and shows that bank's
 -- part and no other."
 use Prim.Native.Nat.{ℕ, zero, suc, _+_, _*_}
-use mathlib.Core.Bool.{Bool, cond, _||_, not}
+use mathlib.Core.Bool.{cond, _||_, not}
 use mathlib.Core.List.{List}
 use lib.Dec.{ltb}
 use lib.ListN.{length}

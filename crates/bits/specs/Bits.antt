@@ -1,6 +1,6 @@
 -- Bits and fields of a number, and membership of a list: the words in which every other definition is written.
 use Prim.Native.Nat.{ℕ, _+_, _*_, _-_, _^_, _/_, _%_}
-use mathlib.Core.Bool.{Bool, true, false, _||_}
+use mathlib.Core.Bool.{Bool, false, _||_}
 use mathlib.Core.List.{List, [], _∷_}
 use lib.Dec.{eqb}
 use lib.Bits.{bitAnd}

@@ -1,6 +1,6 @@
 -- Document 01, "Cycles", second paragraph; Arm's BRBINF<n>_EL1.CC: CC is 256E + M.
 use Prim.Native.Nat.{ℕ, zero, suc, _+_, _*_, _-_, _^_, _/_, _%_}
-use mathlib.Core.Bool.{Bool, cond}
+use mathlib.Core.Bool.{cond}
 use lib.Dec.{leb, ltb, eqb}
 use Rattle.count.specs.declared.Decoded.{Decoded}
 use Rattle.count.specs.declared.Decoded.the-variants.{Known, Exceeded, Refused}

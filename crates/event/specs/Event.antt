@@ -1,6 +1,6 @@
 -- Document 01, "Which events become records", and of "Cycles" what a record takes.
 use Prim.Native.Nat.{ℕ, _+_}
-use mathlib.Core.Bool.{Bool, true, false, cond, _&&_, _||_, not}
+use mathlib.Core.Bool.{Bool, cond, _&&_, _||_, not}
 use lib.Dec.{eqb}
 use Rattle.bits.specs.Bits.{isSet, put}
 use Rattle.count.specs.Count.{encoded}
@@ -13,11 +13,17 @@ use Rattle.room.specs.declared.Effect.{Effect}
 use Rattle.room.specs.declared.Effect.the-variants.{Keep, Push}
 use Rattle.event.specs.declared.Event.{Event}
 
--- The control of exceptions and returns: "level 1, BRBCR_EL1; level 2, BRBCR_EL2; bit 23 for exceptions, bit 22 for
--- returns; level 3, recorded exactly when v1p1 and P bit 6 are 1." The level is the target of an exception and the level
--- that a return leaves. R_KRJQC, R_ZSHDL.
-unfoldable pub controlled : State → ℕ → ℕ → Bool
-controlled s level k = cond (eqb level 3) (EL3Recorded s) (cond (eqb level 2) (isSet k (s .brbcr2)) (isSet k (s .brbcr1)))
+-- Bits 23 and 22 of a control register: "bit 23 for exceptions, bit 22 for returns".
+abbrev pub EXCEPTION : ℕ → Bool
+EXCEPTION brbcr = isSet 23 brbcr
+
+abbrev pub ERTN : ℕ → Bool
+ERTN brbcr = isSet 22 brbcr
+
+-- The control of exceptions and returns: "level 1, BRBCR_EL1; level 2, BRBCR_EL2; level 3, recorded exactly when v1p1 and
+-- P bit 6 are 1." The level is the target of an exception and the level that a return leaves. R_KRJQC, R_ZSHDL.
+unfoldable pub controlled : State → ℕ → Bool → Bool → Bool
+controlled s level el1 el2 = cond (eqb level 3) (EL3Recorded s) (cond (eqb level 2) el2 el1)
 
 -- VALID. "Source prohibited: half-target (VALID 1). Only target prohibited: half-source (VALID 2). Neither: full (3)."
 -- None if both sides are prohibited. R_LPLYK, R_RPVXK, R_GSMRH, R_YSKQK, R_YBJDJ, R_LMXHS, R_ZTGMW.
@@ -33,14 +39,19 @@ countUnknown s r = eqb (r .unknown) 1 || not (counting s)
 unfoldable pub MPRED : State → Event → ℕ
 MPRED s e = cond (predictionShown s && not (prohibited s (e .left))) (e .mispredicted) 0
 
--- "BRBINF: CCU bit 46, CC 45:32, TYPE 13:8, target level 7:6, MPRED 5, VALID 1:0, else 0." "Half-source: level 0."
--- "It is unknown (CCU 1, CC 0)": R_PBJTJ, R_XGSSZ, R_JZWPG; the count that the record takes has the event's cycles in it.
+-- "BRBINF: CCU bit 46, CC 45:32, TYPE 13:8, target level 7:6, MPRED 5, VALID 1:0, else 0."
+abbrev pub packed : ℕ → ℕ → ℕ → ℕ → ℕ → ℕ → ℕ
+packed ccu cc kind level mpred valid =
+    put 46 46 ccu + put 45 32 cc + put 13 8 kind + put 7 6 level + put 5 5 mpred + put 1 0 valid
+
+-- BRBINF of an event. "It is unknown (CCU 1, CC 0)": R_PBJTJ, R_XGSSZ, R_JZWPG; the count that the record takes has the
+-- event's cycles in it. "Half-source: level 0."
 unfoldable pub BRBINF : State → Running → Event → ℕ
 BRBINF s r e =
-    put 46 46 (cond (countUnknown s r) 1 0) + put 45 32 (cond (countUnknown s r) 0 (encoded (r .count))) + put 13 8 (e .kind)
-    + put 7 6 (cond (prohibited s (e .entered)) 0 (e .entered))
-    + put 5 5 (MPRED s e)
-    + put 1 0 (valid s e)
+    packed (cond (countUnknown s r) 1 0) (cond (countUnknown s r) 0 (encoded (r .count))) (e .kind)
+    (cond (prohibited s (e .entered)) 0 (e .entered))
+    (MPRED s e)
+    (valid s e)
 
 -- The record of an event: 0 where the address of its prohibited side would stand. R_YGGSC.
 unfoldable pub recordOf : State → Running → Event → Record

@@ -1,14 +1,13 @@
 -- The filter in Arm's own words. Document 01 says "the type's filter bit differs from EnI"; R_RBDXK and its five neighbours
 -- say "DIRCALL is 1 and EnI is 0, or DIRCALL is 0 and EnI is 1". The two are one.
-use Prim.Native.Nat.{ℕ, zero, suc, _<_, _^_, _/_}
+use Prim.Native.Nat.{ℕ, zero, suc, _<_}
 use mathlib.Core.Path.{_≡_, refl}
-use mathlib.Core.Bool.{Bool, _&&_, _||_, not}
-use native.Mathlib.Nat.{mod-lt}
+use mathlib.Core.Bool.{_&&_, _||_, not}
 use native.Mathlib.Omega.{arith}
 use lib.Dec.{eqb}
 use Rattle.bits.specs.Bits.{bit, isSet}
 use Rattle.filter.specs.declared.BranchType.{BranchType}
-use Rattle.filter.specs.Filter.{filterBit, EnI, chosen}
+use Rattle.filter.specs.Filter.{filterBit, chosen}
 
 bits-differ : (x y : ℕ) → x < 2 → y < 2 → not (eqb x y) ≡ (eqb x 1 && not (eqb y 1) || not (eqb x 1) && eqb y 1)
 bits-differ zero zero hx hy = refl

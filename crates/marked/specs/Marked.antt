@@ -1,7 +1,7 @@
 -- Document 01, "Marked cases": one table, and one fact about it, which the checker computes from the definitions.
 use Prim.Native.Nat.{ℕ}
 use mathlib.Core.Path.{_≡_, refl}
-use mathlib.Core.Bool.{Bool, true, false, cond}
+use mathlib.Core.Bool.{cond}
 use mathlib.Core.List.{List, [], _∷_, _++_, map}
 use Rattle.count.specs.declared.Decoded.{Decoded}
 use Rattle.count.specs.declared.Decoded.the-variants.{Known}
@@ -15,7 +15,7 @@ use Rattle.room.specs.Room.{records, numbered, pushed, cleared, roomAfter}
 use Rattle.region.specs.Region.{enabled, prohibited}
 use Rattle.filter.specs.Filter.{filterBit, chosen}
 use Rattle.event.specs.Event.{controlled, valid, countUnknown, MPRED, BRBINF, recordOf, made}
-use Rattle.access.specs.Access.{permit, trapped2, trapped3, outcome, readOutcome, writeOutcome, meant, shownRecord, registerValue, registerWritten}
+use Rattle.access.specs.Access.{permitted, trapped2, outcome, readOutcome, writeOutcome, shownRecord, registerValue, registerWritten}
 use Rattle.operation.specs.Operation.{operationOf, codeOf}
 use Rattle.operation.specs.Refusal.{unknownCode, notReset, outsideList, notPermitted, sizeAfter, roomTooShort, refusalOf}
 use Rattle.recorder.specs.Step.{iallOutcome, answerOf, changed, occasion, passed, effectOf, stateAfter, accepted, stepOf}
@@ -88,5 +88,5 @@ cases =
     ∷ []
 
 pub marked : map computed cases ≡ cases
-unfolding bitLength exponent mantissa encoded countOf decoded numberIn numberAt bytesIn bytesOf closed sound records numbered pushed cleared roomAfter enabled prohibited filterBit chosen controlled valid countUnknown MPRED BRBINF recordOf made permit trapped2 trapped3 outcome readOutcome writeOutcome meant shownRecord registerValue registerWritten operationOf codeOf unknownCode notReset outsideList notPermitted sizeAfter roomTooShort refusalOf iallOutcome answerOf changed occasion passed effectOf stateAfter accepted stepOf fieldCount numbersAt operationAt bytesOfAll operationBytes recordedStep hexDigits decimalIn decimal lineOf replayFrom replayOf
+unfolding bitLength exponent mantissa encoded countOf decoded numberIn numberAt bytesIn bytesOf closed sound records numbered pushed cleared roomAfter enabled prohibited filterBit chosen controlled valid countUnknown MPRED BRBINF recordOf made permitted trapped2 outcome readOutcome writeOutcome shownRecord registerValue registerWritten operationOf codeOf unknownCode notReset outsideList notPermitted sizeAfter roomTooShort refusalOf iallOutcome answerOf changed occasion passed effectOf stateAfter accepted stepOf fieldCount numbersAt operationAt bytesOfAll operationBytes recordedStep hexDigits decimalIn decimal lineOf replayFrom replayOf
 marked = refl

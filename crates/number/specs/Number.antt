@@ -37,3 +37,7 @@ bytesOf n = bytesIn 10 n
 -- Lent bytes after a write at a place: what stood before it and past it stands there still.
 abbrev pub written : List ℕ → ℕ → List ℕ → List ℕ
 written out at bytes = take at out ++ (bytes ++ drop (at + length bytes) out)
+
+-- Lent bytes have room at a place for the bytes of n.
+abbrev pub fits : List ℕ → ℕ → ℕ → Bool
+fits out at n = leb (at + length (bytesOf n)) (length out)

@@ -1,4 +1,9 @@
 // One number of a recording (document 01, "Recordings").
+ghost use mathlib.Core.Path.{_≡_};
+ghost use mathlib.Core.Bool.{cond};
+ghost use Prim.Native.Nat.{_+_, _≤_, _<_};
+ghost use lib.ListN.{length, drop};
+ghost use Rattle.number.specs.Number.{continued, numberIn, numberAt, bytesOf, written, fits};
 
 // What stands at a place of a recording.
 pub enum Found {
@@ -8,4 +13,100 @@ pub enum Found {
     Malformed,
     // The bytes end before the number does.
     Ended,
+}
+
+// What the tenth group counts by: 2^63.
+const TENTH: u64 = 0x8000_0000_0000_0000;
+
+// The number at a place (document 01, "Recordings"). Its first byte stands apart: only there can the last group be 0.
+pub fn number_at(bytes: &[u8], at: usize) -> Found
+    ensures { λ r. ⌜ r ≡ numberAt (now (bytes .entry)) at ⌝ }
+{
+    if bytes.len() <= at {
+        return Found::Ended;
+    }
+    let first = bytes[at] as u64;
+    if first < 128 {
+        return Found::Value(first, at + 1);
+    }
+    more_at(bytes, at + 1, first)
+}
+
+// The number whose first byte, just before the place, says that more follow. "Low group first": `value` is what the
+// groups so far come to, and the next counts by `place`. A last group of 0 is not "shortest form". The tenth byte stands
+// after the loop, since of its group only one bit is "below 2^64".
+fn more_at(bytes: &[u8], at: usize, first: u64) -> Found
+    requires { ⌜ (128 ≤ first) × (first < 256) ⌝ }
+    ensures { λ r. ⌜ r ≡ continued first (numberIn 9 (drop at (now (bytes .entry))) at) ⌝ }
+{
+    let mut value = first - 128;
+    let mut place: u64 = 128;
+    let mut i = at;
+    while place < TENTH {
+        if bytes.len() <= i {
+            return Found::Ended;
+        }
+        let byte = bytes[i] as u64;
+        if byte == 0 {
+            return Found::Malformed;
+        }
+        if byte < 128 {
+            return Found::Value(value + place * byte, i + 1);
+        }
+        value = value + place * (byte - 128);
+        place = place * 128;
+        i = i + 1;
+    }
+    if bytes.len() <= i {
+        return Found::Ended;
+    }
+    if bytes[i] == 1 {
+        return Found::Value(value + TENTH, i + 1);
+    }
+    Found::Malformed
+}
+
+// How many bytes the shortest form of n has: never more than ten, so that a caller's sums of a few do not wrap.
+pub fn number_length(n: u64) -> usize
+    ensures { λ r. ⌜ (r ≡ length (bytesOf n)) × (1 ≤ r) × (r ≤ 10) ⌝ }
+{
+    let mut rest = n;
+    let mut size = 1;
+    while 128 <= rest {
+        rest = rest / 128;
+        size = size + 1;
+    }
+    size
+}
+
+// The shortest form of n, at a place of lent bytes that have room for it there.
+fn put(out: &mut [u8], at: usize, n: u64)
+    requires { ⌜ at + length (bytesOf n) ≤ length (now out) ⌝ }
+    ensures { λ _. ⌜ now (out .exit) ≡ written (now (out .entry)) at (bytesOf n) ⌝ }
+{
+    let mut left = n;
+    let mut i = at;
+    while 128 <= left {
+        out[i] = (left % 128 + 128) as u8;
+        left = left / 128;
+        i = i + 1;
+    }
+    out[i] = left as u8;
+}
+
+// The shortest form of n at a place, where it fits: how many bytes were written, or 0, and then nothing is changed. The
+// tests subtract, since a sum with a large place would wrap (document 01, "Recordings").
+pub fn write_number(out: &mut [u8], at: usize, n: u64) -> usize
+    ensures { λ r. ⌜ r ≡ cond (fits (now (out .entry)) at n) (length (bytesOf n)) 0 ⌝ }
+    ensures { λ _. ⌜ now (out .exit) ≡ cond (fits (now (out .entry)) at n) (written (now (out .entry)) at (bytesOf n)) (now (out .entry)) ⌝ }
+{
+    let size = number_length(n);
+    if out.len() < size {
+        return 0;
+    }
+    if out.len() - size < at {
+        return 0;
+    }
+    put(out, at, n);
+    size
 }

@@ -13,8 +13,7 @@ use Rattle.room.specs.declared.Effect.the-variants.{Keep, Push, Clear, Start}
 use Rattle.room.specs.Room.{records, roomAfter}
 use Rattle.region.specs.Region.{prohibited}
 use Rattle.filter.specs.Filter.{returnType, chosen}
-use Rattle.event.specs.declared.Event.{Event}
-use Rattle.event.specs.Event.{controlled, made}
+use Rattle.event.specs.Event.{EXCEPTION, ERTN, controlled, made}
 use Rattle.access.specs.declared.Outcome.{Outcome}
 use Rattle.access.specs.declared.Outcome.the-variants.{Performed, Undefined, Trap2, Trap3}
 use Rattle.access.specs.Access.{outcome, readOutcome, writeOutcome, meant, registerValue, registerWritten}
@@ -57,7 +56,7 @@ isPerformed Trap3 = false
 
 -- BRB IALL is an access by nBRBIALL.
 unfoldable pub iallOutcome : State → Outcome
-iallOutcome s = outcome s false nBRBIALL
+iallOutcome s = outcome s false (nBRBIALL s)
 
 -- What an accepted operation answers. Only reads, writes and BRB IALL can be undefined or trapped.
 unfoldable pub answerOf : State → Operation → List ℕ → Answer
@@ -102,10 +101,10 @@ effectOf s (Branch kind m source target) cycles =
     made s (passed s (Branch kind m source target) cycles) (chosen (s .brbfcr) (record { code = kind }))
     (record { kind = kind; mispredicted = m; left = s .level; entered = s .level; source = source; target = target })
 effectOf s (Exception kind level source target) cycles =
-    made s (passed s (Exception kind level source target) cycles) (controlled s level 23)
+    made s (passed s (Exception kind level source target) cycles) (controlled s level (EXCEPTION (s .brbcr1)) (EXCEPTION (s .brbcr2)))
     (record { kind = kind; mispredicted = 0; left = s .level; entered = level; source = source; target = target })
 effectOf s (Return level m source target) cycles =
-    made s (passed s (Return level m source target) cycles) (controlled s (s .level) 22)
+    made s (passed s (Return level m source target) cycles) (controlled s (s .level) (ERTN (s .brbcr1)) (ERTN (s .brbcr2)))
     (record { kind = returnType; mispredicted = m; left = s .level; entered = level; source = source; target = target })
 effectOf s (Platform p) cycles = Keep
 effectOf s (Read r) cycles = Keep

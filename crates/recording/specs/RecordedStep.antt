@@ -1,7 +1,7 @@
 -- Document 01, "Refusal numbers": "In a recording 7 comes first, then the code is read (1, then 2), then all fields (1),
 -- then the rest."
 use Prim.Native.Nat.{ℕ}
-use mathlib.Core.Bool.{Bool, true, false, cond, _||_}
+use mathlib.Core.Bool.{Bool, cond}
 use mathlib.Core.List.{List, [], _∷_}
 use Rattle.bits.specs.Bits.{oneOf}
 use Rattle.state.specs.declared.State.{State}

@@ -1,6 +1,6 @@
 -- The records as a list, newest first, and their places in the lent room. Document 01, "Which events become records",
 -- last paragraph: "In the room, record r is BRBINF, BRBSRC, BRBTGT at 3r."
-use Prim.Native.Nat.{ℕ, zero, suc, _+_, _*_, _-_}
+use Prim.Native.Nat.{ℕ, zero, suc, _*_, _-_}
 use mathlib.Core.Bool.{cond, _&&_}
 use mathlib.Core.List.{List, [], _∷_, _++_}
 use lib.Dec.{leb}

@@ -1,9 +1,9 @@
 -- The bits of P and of the control registers by name, and the states that document 01 names.
-use Prim.Native.Nat.{ℕ, _+_}
-use mathlib.Core.Bool.{Bool, _&&_, _||_, not, cond}
+use Prim.Native.Nat.{ℕ}
+use mathlib.Core.Bool.{Bool, _&&_, _||_}
 use mathlib.Core.List.{List, [], _∷_}
 use lib.Dec.{eqb}
-use Rattle.bits.specs.Bits.{isSet, part, oneOf}
+use Rattle.bits.specs.Bits.{isSet, part}
 use Rattle.state.specs.declared.State.{State}
 use Rattle.state.specs.declared.Running.{Running}
 
@@ -29,21 +29,21 @@ EL3Recording s = isSet 6 (s .p)
 abbrev pub FGTEn : State → Bool
 FGTEn s = isSet 8 (s .p)
 
--- The bits of P that permit an access at EL1: the place of each.
-abbrev pub nBRBDATA : ℕ
-nBRBDATA = 9
+-- The bits of P that permit an access at EL1.
+abbrev pub nBRBDATA : State → Bool
+nBRBDATA s = isSet 9 (s .p)
 
-abbrev pub nBRBCTLRead : ℕ
-nBRBCTLRead = 10
+abbrev pub nBRBCTLRead : State → Bool
+nBRBCTLRead s = isSet 10 (s .p)
 
-abbrev pub nBRBCTLWrite : ℕ
-nBRBCTLWrite = 11
+abbrev pub nBRBCTLWrite : State → Bool
+nBRBCTLWrite s = isSet 11 (s .p)
 
-abbrev pub nBRBIDR : ℕ
-nBRBIDR = 12
+abbrev pub nBRBIDR : State → Bool
+nBRBIDR s = isSet 12 (s .p)
 
-abbrev pub nBRBIALL : ℕ
-nBRBIALL = 13
+abbrev pub nBRBIALL : State → Bool
+nBRBIALL s = isSet 13 (s .p)
 
 -- "EL2 is enabled when NS or EEL2 is 1."
 abbrev pub EL2Enabled : State → Bool

@@ -1,6 +1,6 @@
 -- The state as nine lent numbers (house): level, size, v1p1, P, BRBCR_EL1, BRBCR_EL2, BRBFCR_EL1, count, unknown.
 use Prim.Native.Nat.{ℕ}
-use mathlib.Core.Bool.{Bool, cond, _&&_}
+use mathlib.Core.Bool.{cond, _&&_}
 use mathlib.Core.List.{List, [], _∷_, _++_}
 use lib.Dec.{leb}
 use lib.ListN.{length, getD, drop}

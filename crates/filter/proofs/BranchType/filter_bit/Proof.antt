@@ -1,5 +1,4 @@
 -- The filter bit of each type, as defined: each arm knows the code that it stands for, the last that it is none of them.
-use Prim.Native.Nat.{_≤_}
 use borrow.Author.Tests.{ne-eqb}
 use native.Mathlib.Omega.{arith}
 use Rattle.filter.specs.Filter.{filterBit}

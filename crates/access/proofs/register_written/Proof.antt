@@ -1,0 +1,11 @@
+-- A performed write, as defined: the three choices are put together.
+use Rattle.access.specs.Access.{registerWritten}
+use Rattle.access.proofs.register_written.Statement.{statement}
+use Rattle.access.proofs.register_written.Tie as tie
+
+returns : tie.Need-returns
+unfolding registerWritten
+returns c = cc
+
+pub register-written-spec : {M : Type 1} → statement M
+register-written-spec = tie.close (tie.spec (λ _ _. tt) (λ _ _. tt) (λ _ _. tt) returns)

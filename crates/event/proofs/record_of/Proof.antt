@@ -1,0 +1,11 @@
+-- The record of an event, as defined: 0 on a prohibited side.
+use Rattle.event.specs.Event.{recordOf}
+use Rattle.event.proofs.record_of.Statement.{statement}
+use Rattle.event.proofs.record_of.Tie as tie
+
+returns : tie.Need-returns
+unfolding recordOf
+returns c = cc
+
+pub record-of-spec : {M : Type 1} → statement M
+record-of-spec = tie.close (tie.spec (λ _ _. tt) (λ _ _. tt) (λ _ _. tt) (λ _ _. tt) (λ _ _. tt) returns)
