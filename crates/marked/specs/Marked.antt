@@ -5,23 +5,22 @@ use mathlib.Core.Bool.{cond}
 use mathlib.Core.List.{List, [], _∷_, _++_, map}
 use Rattle.count.specs.declared.Decoded.{Decoded}
 use Rattle.count.specs.declared.Decoded.the-variants.{Known}
-use Rattle.filter.specs.Filter.{branchTypes}
-use Rattle.line.specs.Line.{bytesOfText}
 use Rattle.recording.specs.declared.Numbers.{Numbers}
+
+use Rattle.filter.specs.Filter.{branchTypes, filterBit, chosen}
+use Rattle.line.specs.Line.{bytesOfText, hexDigits, decimalIn, decimal, lineOf, replayFrom, replayOf}
 use Rattle.count.specs.Count.{bitLength, exponent, mantissa, encoded, countOf, decoded}
 use Rattle.number.specs.Number.{numberIn, numberAt, bytesIn, bytesOf}
 use Rattle.state.specs.Sound.{closed, sound}
 use Rattle.room.specs.Room.{records, numbered, pushed, cleared, roomAfter}
 use Rattle.region.specs.Region.{enabled, prohibited}
-use Rattle.filter.specs.Filter.{filterBit, chosen}
 use Rattle.event.specs.Event.{controlled, valid, countUnknown, MPRED, BRBINF, recordOf, made}
 use Rattle.access.specs.Access.{permitted, trapped2, outcome, readOutcome, writeOutcome, shownRecord, registerValue, registerWritten}
-use Rattle.operation.specs.Operation.{operationOf, codeOf}
-use Rattle.operation.specs.Refusal.{unknownCode, notReset, outsideList, notPermitted, sizeAfter, roomTooShort, refusalOf}
+use Rattle.operation.specs.Operation.{operationOf}
+use Rattle.operation.specs.Refusal.{unknownCode, notReset, outsideList, notPermitted, roomTooShort, refusalOf}
 use Rattle.recorder.specs.Step.{iallOutcome, answerOf, changed, occasion, passed, effectOf, stateAfter, accepted, stepOf}
 use Rattle.recording.specs.Recording.{fieldCount, numbersAt, operationAt, bytesOfAll, operationBytes}
 use Rattle.recording.specs.RecordedStep.{recordedStep}
-use Rattle.line.specs.Line.{hexDigits, decimalIn, decimal, lineOf, replayFrom, replayOf}
 
 -- An operation as document 01 writes it: code, cycles, then fields.
 abbrev pub operation : ℕ → ℕ → ℕ → ℕ → ℕ → ℕ → Numbers
@@ -88,5 +87,5 @@ cases =
     ∷ []
 
 pub marked : map computed cases ≡ cases
-unfolding bitLength exponent mantissa encoded countOf decoded numberIn numberAt bytesIn bytesOf closed sound records numbered pushed cleared roomAfter enabled prohibited filterBit chosen controlled valid countUnknown MPRED BRBINF recordOf made permitted trapped2 outcome readOutcome writeOutcome shownRecord registerValue registerWritten operationOf codeOf unknownCode notReset outsideList notPermitted sizeAfter roomTooShort refusalOf iallOutcome answerOf changed occasion passed effectOf stateAfter accepted stepOf fieldCount numbersAt operationAt bytesOfAll operationBytes recordedStep hexDigits decimalIn decimal lineOf replayFrom replayOf
+unfolding bitLength exponent mantissa encoded countOf decoded numberIn numberAt bytesIn bytesOf closed sound records numbered pushed cleared roomAfter enabled prohibited filterBit chosen controlled valid countUnknown MPRED BRBINF recordOf made permitted trapped2 outcome readOutcome writeOutcome shownRecord registerValue registerWritten operationOf unknownCode notReset outsideList notPermitted roomTooShort refusalOf iallOutcome answerOf changed occasion passed effectOf stateAfter accepted stepOf fieldCount numbersAt operationAt bytesOfAll operationBytes recordedStep hexDigits decimalIn decimal lineOf replayFrom replayOf
 marked = refl

@@ -17,7 +17,7 @@ operationOf code a b c d =
     (cond (eqb code 7) Iall Unknown)))))))
 
 -- The code of an operation; of an unknown one, the first that is above 7.
-unfoldable pub codeOf : Operation → ℕ
+abbrev pub codeOf : Operation → ℕ
 codeOf (Reset size v1p1) = 0
 codeOf (Branch kind m source target) = 1
 codeOf (Exception kind level source target) = 2

@@ -1,6 +1,7 @@
 -- Document 01, "Refusal numbers, in order of checking": each line's condition, and the first that holds.
 use Prim.Native.Nat.{ℕ}
 use mathlib.Core.Bool.{Bool, false, cond, _&&_, _||_, not}
+use mathlib.Core.List.{List, [], _∷_}
 use lib.Dec.{eqb, ltb}
 use Rattle.bits.specs.Bits.{within, oneOf}
 use Rattle.state.specs.declared.State.{State}
@@ -47,7 +48,7 @@ notPermitted s Iall = false
 notPermitted s Unknown = false
 
 -- The size after the operation.
-unfoldable pub sizeAfter : State → Operation → ℕ
+abbrev pub sizeAfter : State → Operation → ℕ
 sizeAfter s (Reset size v1p1) = size
 sizeAfter s (Branch kind m source target) = s .size
 sizeAfter s (Exception kind level source target) = s .size
@@ -62,13 +63,19 @@ sizeAfter s Unknown = s .size
 unfoldable pub roomTooShort : State → Operation → ℕ → Bool
 roomTooShort s o room = ltb room (needed (sizeAfter s o))
 
--- The number of the first line of the table, in its order, whose condition holds; 0 if none does and the operation is
--- accepted. `room` is the lent room's length.
+-- The number of the first line whose condition holds; 0 if none does.
+abbrev pub firstThat : List (ℕ × Bool) → ℕ
+firstThat [] = 0
+firstThat (line ∷ lines) = cond (line .1) (line .0) (firstThat lines)
+
+-- The table, in its order. 0: the operation is accepted. `room` is the lent room's length.
 unfoldable pub refusalOf : State → Operation → ℕ → ℕ
 refusalOf s o room =
-    cond (not (sound s)) 7
-    (cond (unknownCode o) 2
-    (cond (notReset s o) 3
-    (cond (outsideList o) 4
-    (cond (notPermitted s o) 5
-    (cond (roomTooShort s o room) 6 0)))))
+    firstThat
+    ((7, not (sound s))
+    ∷ (2, unknownCode o)
+    ∷ (3, notReset s o)
+    ∷ (4, outsideList o)
+    ∷ (5, notPermitted s o)
+    ∷ (6, roomTooShort s o room)
+    ∷ [])

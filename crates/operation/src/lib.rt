@@ -1,4 +1,12 @@
 // The operations (document 01, "Operations") and their refusals ("Refusal numbers, in order of checking").
+ghost use mathlib.Core.Path.{_≡_};
+ghost use mathlib.Core.List.{[], _∷_};
+ghost use Rattle.operation.specs.Operation.{operationOf, codeOf};
+ghost use Rattle.operation.specs.Refusal.{unknownCode, notReset, outsideList, notPermitted, sizeAfter, roomTooShort, firstThat, refusalOf};
+use filter::BranchType;
+use filter::is_exception_type;
+use state::PLATFORM_MASK;
+use state::State;
 
 // One operation, with the fields of document 01's table. Fields are numbers as handed in: refusal 4 judges them.
 // (`kind` is the document's type; that word is the language's own.)
@@ -38,4 +46,246 @@ pub enum Operation {
     Iall,
     // A code above 7.
     Unknown,
+}
+
+// An operation from its code and four numbers; those beyond its own fields are not looked at.
+pub fn operation_of(code: u64, a: u64, b: u64, c: u64, d: u64) -> Operation
+    ensures { λ o. ⌜ o ≡ operationOf code a b c d ⌝ }
+{
+    match code {
+        0 => Operation::Reset { size: a, v1p1: b },
+        1 => Operation::Branch {
+            kind: a,
+            mispredicted: b,
+            source: c,
+            target: d,
+        },
+        2 => Operation::Exception {
+            kind: a,
+            target_level: b,
+            source: c,
+            target: d,
+        },
+        3 => Operation::Return {
+            target_level: a,
+            mispredicted: b,
+            source: c,
+            target: d,
+        },
+        4 => Operation::Platform { p: a },
+        5 => Operation::Read { register: a },
+        6 => Operation::Write {
+            register: a,
+            value: b,
+        },
+        7 => Operation::Iall,
+        _ => Operation::Unknown,
+    }
+}
+
+// The code of an operation.
+fn code_of(o: Operation) -> u64
+    ensures { λ r. ⌜ r ≡ codeOf o ⌝ }
+{
+    match o {
+        Operation::Reset { size: _, v1p1: _ } => 0,
+        Operation::Branch {
+            kind: _,
+            mispredicted: _,
+            source: _,
+            target: _,
+        } => 1,
+        Operation::Exception {
+            kind: _,
+            target_level: _,
+            source: _,
+            target: _,
+        } => 2,
+        Operation::Return {
+            target_level: _,
+            mispredicted: _,
+            source: _,
+            target: _,
+        } => 3,
+        Operation::Platform { p: _ } => 4,
+        Operation::Read { register: _ } => 5,
+        Operation::Write {
+            register: _,
+            value: _,
+        } => 6,
+        Operation::Iall => 7,
+        Operation::Unknown => 8,
+    }
+}
+
+// 4: a number of the operation is outside its list.
+fn outside_list(o: Operation) -> bool
+    ensures { λ r. ⌜ r ≡ outsideList o ⌝ }
+{
+    match o {
+        Operation::Reset { size, v1p1 } => {
+            !((size == 64) | (size == 32) | (size == 16) | (size == 8)) | (1 < v1p1)
+        }
+        Operation::Branch {
+            kind,
+            mispredicted,
+            source: _,
+            target: _,
+        } => {
+            let t = BranchType { code: kind };
+            !t.listed() | (1 < mispredicted)
+        }
+        Operation::Exception {
+            kind,
+            target_level,
+            source: _,
+            target: _,
+        } => { !is_exception_type(kind) | (3 < target_level) }
+        Operation::Return {
+            target_level,
+            mispredicted,
+            source: _,
+            target: _,
+        } => { (3 < target_level) | (1 < mispredicted) }
+        Operation::Platform { p } => !(p & PLATFORM_MASK == p),
+        Operation::Read { register } => !((register <= 3) | (32 <= register) & (register <= 127)),
+        Operation::Write { register, value: _ } => {
+            !((register <= 3) | (32 <= register) & (register <= 127))
+        }
+        Operation::Iall => false,
+        Operation::Unknown => false,
+    }
+}
+
+// 5: the level does not permit the operation.
+fn not_permitted(s: State, o: Operation) -> bool
+    ensures { λ r. ⌜ r ≡ notPermitted s o ⌝ }
+{
+    match o {
+        Operation::Reset { size: _, v1p1: _ } => false,
+        Operation::Branch {
+            kind: _,
+            mispredicted: _,
+            source: _,
+            target: _,
+        } => false,
+        Operation::Exception {
+            kind: _,
+            target_level,
+            source: _,
+            target: _,
+        } => {
+            let closed = s.closed(target_level);
+            (target_level < s.level) | (target_level == 0) | closed
+        }
+        Operation::Return {
+            target_level,
+            mispredicted: _,
+            source: _,
+            target: _,
+        } => {
+            let closed = s.closed(target_level);
+            (s.level == 0) | (s.level < target_level) | closed
+        }
+        Operation::Platform { p: _ } => !(s.level == 3),
+        Operation::Read { register: _ } => false,
+        Operation::Write {
+            register: _,
+            value: _,
+        } => false,
+        Operation::Iall => false,
+        Operation::Unknown => false,
+    }
+}
+
+// The size after the operation.
+fn size_after(s: State, o: Operation) -> u64
+    ensures { λ r. ⌜ r ≡ sizeAfter s o ⌝ }
+{
+    match o {
+        Operation::Reset { size, v1p1: _ } => size,
+        Operation::Branch {
+            kind: _,
+            mispredicted: _,
+            source: _,
+            target: _,
+        } => s.size,
+        Operation::Exception {
+            kind: _,
+            target_level: _,
+            source: _,
+            target: _,
+        } => s.size,
+        Operation::Return {
+            target_level: _,
+            mispredicted: _,
+            source: _,
+            target: _,
+        } => s.size,
+        Operation::Platform { p: _ } => s.size,
+        Operation::Read { register: _ } => s.size,
+        Operation::Write {
+            register: _,
+            value: _,
+        } => s.size,
+        Operation::Iall => s.size,
+        Operation::Unknown => s.size,
+    }
+}
+
+// 2: the code is above 7.
+fn unknown_code(o: Operation) -> bool
+    ensures { λ r. ⌜ r ≡ unknownCode o ⌝ }
+{
+    let code = code_of(o);
+    7 < code
+}
+
+// 3: there was no reset yet, and this is none.
+fn not_reset(s: State, o: Operation) -> bool
+    ensures { λ r. ⌜ r ≡ notReset s o ⌝ }
+{
+    let code = code_of(o);
+    (s.size == 0) & !(code == 0)
+}
+
+// 6: the lent room is below three numbers a record, for the size after the operation. A third of the room is compared,
+// since three times a size could wrap.
+fn room_too_short(s: State, o: Operation, room: usize) -> bool
+    ensures { λ r. ⌜ r ≡ roomTooShort s o room ⌝ }
+{
+    let size = size_after(s, o);
+    (room as u64) / 3 < size
+}
+
+// The table's last three lines, in its order.
+fn content_refusal(s: State, o: Operation, room: usize) -> u64
+    ensures { λ r. ⌜ r ≡ firstThat ((4, outsideList o) ∷ (5, notPermitted s o) ∷ (6, roomTooShort s o room) ∷ []) ⌝ }
+{
+    if outside_list(o) {
+        return 4;
+    }
+    if not_permitted(s, o) {
+        return 5;
+    }
+    if room_too_short(s, o, room) {
+        return 6;
+    }
+    0
+}
+
+// The number of the first refusal whose condition holds, in the table's order, or 0: the operation is accepted.
+pub fn refusal(s: State, o: Operation, room: usize) -> u64
+    ensures { λ r. ⌜ r ≡ refusalOf s o room ⌝ }
+{
+    if !s.sound() {
+        return 7;
+    }
+    if unknown_code(o) {
+        return 2;
+    }
+    if not_reset(s, o) {
+        return 3;
+    }
+    content_refusal(s, o, room)
 }

@@ -3,9 +3,6 @@ use Rattle.access.specs.Access.{permitted}
 use Rattle.access.proofs.permitted.Statement.{statement}
 use Rattle.access.proofs.permitted.Tie as tie
 
-returns : tie.Need-returns
-unfolding permitted
-returns c = cc
-
 pub permitted-spec : {M : Type 1} → statement M
-permitted-spec = tie.close (tie.spec (λ _ _. tt) (λ _ _. tt) (λ _ _. tt) returns)
+unfolding permitted
+permitted-spec = tie.close (tie.spec (λ _ _. tt) (λ _ _. tt) (λ _ _. tt) (λ c. cc))

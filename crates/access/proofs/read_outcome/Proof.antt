@@ -3,9 +3,6 @@ use Rattle.access.specs.Access.{readOutcome}
 use Rattle.access.proofs.read_outcome.Statement.{statement}
 use Rattle.access.proofs.read_outcome.Tie as tie
 
-returns : tie.Need-returns
-unfolding readOutcome
-returns c = cc
-
 pub read-outcome-spec : {M : Type 1} → statement M
-read-outcome-spec = tie.close (tie.spec (λ _ _. tt) (λ _ _. tt) returns)
+unfolding readOutcome
+read-outcome-spec = tie.close (tie.spec (λ _ _. tt) (λ _ _. tt) (λ c. cc))

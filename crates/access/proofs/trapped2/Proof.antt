@@ -3,9 +3,6 @@ use Rattle.access.specs.Access.{trapped2}
 use Rattle.access.proofs.trapped2.Statement.{statement}
 use Rattle.access.proofs.trapped2.Tie as tie
 
-returns : tie.Need-returns
-unfolding trapped2
-returns c = cc
-
 pub trapped2-spec : {M : Type 1} → statement M
-trapped2-spec = tie.close (tie.spec (λ _ _. tt) returns)
+unfolding trapped2
+trapped2-spec = tie.close (tie.spec (λ _ _. tt) (λ c. cc))

@@ -3,9 +3,6 @@ use Rattle.access.specs.Access.{writeOutcome}
 use Rattle.access.proofs.write_outcome.Statement.{statement}
 use Rattle.access.proofs.write_outcome.Tie as tie
 
-returns : tie.Need-returns
-unfolding writeOutcome
-returns c = cc
-
 pub write-outcome-spec : {M : Type 1} → statement M
-write-outcome-spec = tie.close (tie.spec (λ _ _. tt) (λ _ _. tt) returns)
+unfolding writeOutcome
+write-outcome-spec = tie.close (tie.spec (λ _ _. tt) (λ _ _. tt) (λ c. cc))

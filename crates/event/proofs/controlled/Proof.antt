@@ -3,9 +3,6 @@ use Rattle.event.specs.Event.{controlled}
 use Rattle.event.proofs.controlled.Statement.{statement}
 use Rattle.event.proofs.controlled.Tie as tie
 
-returns : tie.Need-returns
-unfolding controlled
-returns c = cc
-
 pub controlled-spec : {M : Type 1} → statement M
-controlled-spec = tie.close (tie.spec (λ _ _. tt) (λ _ _. tt) (λ _ _. tt) returns)
+unfolding controlled
+controlled-spec = tie.close (tie.spec (λ _ _. tt) (λ _ _. tt) (λ _ _. tt) (λ c. cc))

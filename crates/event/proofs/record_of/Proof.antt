@@ -3,9 +3,6 @@ use Rattle.event.specs.Event.{recordOf}
 use Rattle.event.proofs.record_of.Statement.{statement}
 use Rattle.event.proofs.record_of.Tie as tie
 
-returns : tie.Need-returns
-unfolding recordOf
-returns c = cc
-
 pub record-of-spec : {M : Type 1} → statement M
-record-of-spec = tie.close (tie.spec (λ _ _. tt) (λ _ _. tt) (λ _ _. tt) (λ _ _. tt) (λ _ _. tt) returns)
+unfolding recordOf
+record-of-spec = tie.close (tie.spec (λ _ _. tt) (λ _ _. tt) (λ _ _. tt) (λ _ _. tt) (λ _ _. tt) (λ c. cc))

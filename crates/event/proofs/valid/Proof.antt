@@ -3,9 +3,6 @@ use Rattle.event.specs.Event.{valid}
 use Rattle.event.proofs.valid.Statement.{statement}
 use Rattle.event.proofs.valid.Tie as tie
 
-returns : tie.Need-returns
-unfolding valid
-returns c = cc
-
 pub valid-spec : {M : Type 1} → statement M
-valid-spec = tie.close (tie.spec (λ _ _. tt) (λ _ _. tt) (λ _ _. tt) (λ _ _. tt) (λ _ _. tt) returns)
+unfolding valid
+valid-spec = tie.close (tie.spec (λ _ _. tt) (λ _ _. tt) (λ _ _. tt) (λ _ _. tt) (λ _ _. tt) (λ c. cc))

@@ -3,9 +3,6 @@ use Rattle.region.specs.Region.{enabled}
 use Rattle.region.proofs.enabled.Statement.{statement}
 use Rattle.region.proofs.enabled.Tie as tie
 
-returns : tie.Need-returns
-unfolding enabled
-returns c = cc
-
 pub enabled-spec : {M : Type 1} → statement M
-enabled-spec = tie.close (tie.spec (λ _ _. tt) (λ _ _. tt) (λ _ _. tt) (λ _ _. tt) returns)
+unfolding enabled
+enabled-spec = tie.close (tie.spec (λ _ _. tt) (λ _ _. tt) (λ _ _. tt) (λ _ _. tt) (λ c. cc))

@@ -3,9 +3,6 @@ use Rattle.region.specs.Region.{prohibited}
 use Rattle.region.proofs.prohibited.Statement.{statement}
 use Rattle.region.proofs.prohibited.Tie as tie
 
-returns : tie.Need-returns
-unfolding prohibited
-returns c = cc
-
 pub prohibited-spec : {M : Type 1} → statement M
-prohibited-spec = tie.close (tie.spec (λ _ _. tt) (λ _ _. tt) (λ _ _. tt) (λ _ _. tt) returns)
+unfolding prohibited
+prohibited-spec = tie.close (tie.spec (λ _ _. tt) (λ _ _. tt) (λ _ _. tt) (λ _ _. tt) (λ c. cc))

@@ -4,9 +4,6 @@ use Rattle.filter.specs.Filter.{chosen}
 use Rattle.filter.proofs.BranchType.chosen.Statement.{statement}
 use Rattle.filter.proofs.BranchType.chosen.Tie as tie
 
-returns : tie.Need-returns
-unfolding chosen
-returns c = rw (← c .filter-bit .ensures .0)
-
 pub chosen-spec : {M : Type 1} → statement M
-chosen-spec = tie.close (tie.spec (λ _ _. tt) (λ c. search needs) returns)
+unfolding chosen
+chosen-spec = tie.close (tie.spec (λ _ _. tt) (λ c. search needs) (λ c. rw (← c .filter-bit .ensures .0)))

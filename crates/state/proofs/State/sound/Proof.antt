@@ -3,9 +3,6 @@ use Rattle.state.specs.Sound.{sound}
 use Rattle.state.proofs.State.sound.Statement.{statement}
 use Rattle.state.proofs.State.sound.Tie as tie
 
-returns : tie.Need-returns
-unfolding sound
-returns c = rw (c .before .before .closed .ensures)
-
 pub sound-spec : {M : Type 1} → statement M
-sound-spec = tie.close (tie.spec (λ _ _. tt) returns)
+unfolding sound
+sound-spec = tie.close (tie.spec (λ _ _. tt) (λ c. rw (c .before .before .closed .ensures)))

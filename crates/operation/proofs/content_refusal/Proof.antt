@@ -1,0 +1,15 @@
+-- The table's last three lines, as defined: each way out knows the conditions before it.
+use Rattle.operation.proofs.content_refusal.Statement.{statement}
+use Rattle.operation.proofs.content_refusal.Tie as tie
+
+pub content-refusal-spec : {M : Type 1} → statement M
+content-refusal-spec =
+    tie.close
+    (tie.spec
+    (λ _ _. tt)
+    (λ c. rw (← c .before .outside-list .ensures, c .if1 .taken))
+    (λ _ _. tt)
+    (λ c. rw (← c .before .before .before .outside-list .ensures, c .before .before .if1 .left, ← c .before .not-permitted .ensures, c .if2 .taken))
+    (λ _ _. tt)
+    (λ c. rw (← c .before .before .before .before .before .outside-list .ensures, c .before .before .before .before .if1 .left, ← c .before .before .before .not-permitted .ensures, c .before .before .if2 .left, ← c .before .room-too-short .ensures, c .if3 .taken))
+    (λ c. rw (← c .before .before .before .before .before .outside-list .ensures, c .before .before .before .before .if1 .left, ← c .before .before .before .not-permitted .ensures, c .before .before .if2 .left, ← c .before .room-too-short .ensures, c .if3 .left)))
