@@ -59,15 +59,17 @@ meant s r = cond (eqb (s .level) 2 && E2H s && eqb r 1) 2 r
 unfoldable pub shownRecord : State → List Record → ℕ → Record
 shownRecord s list r = numbered (r % 32 + 32 * BANK s) list
 
+-- Which of its numbers: "32+m BRBINF, 64+m BRBSRC, 96+m BRBTGT".
+unfoldable pub shownNumber : State → List Record → ℕ → ℕ
+shownNumber s list r =
+    cond (eqb (r / 32) 1) (shownRecord s list r .inf)
+    (cond (eqb (r / 32) 2) (shownRecord s list r .source) (shownRecord s list r .target))
+
 -- "BRBIDR0_EL1 reads 0x5000 plus the size." Its field NUMREC has eight bits.
 unfoldable pub registerValue : State → List Record → ℕ → ℕ
 registerValue s list r =
     cond (eqb r 0) (0x5000 + s .size % 256)
-    (cond (eqb r 1) (s .brbcr1)
-    (cond (eqb r 2) (s .brbcr2)
-    (cond (eqb r 3) (s .brbfcr)
-    (cond (eqb (r / 32) 1) (shownRecord s list r .inf)
-    (cond (eqb (r / 32) 2) (shownRecord s list r .source) (shownRecord s list r .target))))))
+    (cond (eqb r 1) (s .brbcr1) (cond (eqb r 2) (s .brbcr2) (cond (eqb r 3) (s .brbfcr) (shownNumber s list r))))
 
 -- A performed write: "Writes keep only these bits".
 unfoldable pub registerWritten : State → ℕ → ℕ → State

@@ -2,9 +2,10 @@
 ghost use mathlib.Core.Path.{_≡_};
 ghost use mathlib.Core.Bool.{true, false};
 ghost use Rattle.room.specs.Room.{records};
-ghost use Rattle.access.specs.Access.{permitted, trapped2, trapped3, outcome, readOutcome, writeOutcome, meant, registerValue, registerWritten};
+ghost use Rattle.access.specs.Access.{permitted, trapped2, trapped3, outcome, readOutcome, writeOutcome, meant, shownNumber, registerValue, registerWritten};
 use bits::pick;
 use bits::pick_bool;
+use room::record_at;
 use state::CONTROL_MASK;
 use state::FILTER_MASK;
 use state::State;
@@ -100,6 +101,26 @@ pub fn meant(s: State, r: u64) -> u64
     ensures { λ x. ⌜ x ≡ meant s r ⌝ }
 {
     pick((s.level == 2) & (s.p / E2H % 2 == 1) & (r == 1), 2, r)
+}
+
+// The number that a register of a record shows: BRBINF, BRBSRC or BRBTGT.
+fn shown_number(s: State, room: &[u64], r: u64) -> u64
+    ensures { λ x. ⌜ x ≡ shownNumber s (records (s .size) (now (room .entry))) r ⌝ }
+{
+    let shown = record_at(room, s.size, r % 32 + 32 * s.bank());
+    let after1 = pick(r / 32 == 2, shown.source, shown.target);
+    pick(r / 32 == 1, shown.inf, after1)
+}
+
+// What a performed read of a register shows.
+pub fn register_value(s: State, room: &[u64], r: u64) -> u64
+    ensures { λ x. ⌜ x ≡ registerValue s (records (s .size) (now (room .entry))) r ⌝ }
+{
+    let shown = shown_number(s, room, r);
+    let after2 = pick(r == 3, s.brbfcr, shown);
+    let after1 = pick(r == 2, s.brbcr2, after2);
+    let after0 = pick(r == 1, s.brbcr1, after1);
+    pick(r == 0, 0x5000 + s.size % 256, after0)
 }
 
 // A performed write keeps only the register's bits.

@@ -82,35 +82,39 @@ changed s (Write r value) = cond (isPerformed (writeOutcome s r)) (registerWritt
 changed s Iall = s
 changed s Unknown = s
 
--- Document 01, "Cycles": the occasions on which the next count becomes unknown. "an accepted operation, this one
--- included, began at a prohibited level (house); a write turned counting on; a write cleared PAUSED from 1." R_MJDLC.
-unfoldable pub occasion : State → Operation → Bool
-occasion s o =
-    prohibited s (s .level) || not (counting s) && counting (changed s o) || PAUSED s && not (PAUSED (changed s o))
+-- Document 01, "Cycles": the occasions on which the next count becomes unknown, from the state before an accepted operation
+-- and the state that it has changed. "an accepted operation, this one included, began at a prohibited level (house); a
+-- write turned counting on; a write cleared PAUSED from 1." R_MJDLC. (Nothing but a write or a reset changes those bits.)
+unfoldable pub occasion : State → State → Bool
+occasion before after =
+    prohibited before (before .level) || not (counting before) && counting after || PAUSED before && not (PAUSED after)
 
 -- "The running count adds each accepted operation's cycles and stops at 1,048,576."
-unfoldable pub passed : State → Operation → ℕ → Running
-passed s o cycles =
-    record { count = min (s .running .count + cycles) cap; unknown = cond (occasion s o) 1 (s .running .unknown) }
+unfoldable pub passed : State → State → ℕ → Running
+passed before after cycles =
+    record {
+      count = min (before .running .count + cycles) cap;
+      unknown = cond (occasion before after) 1 (before .running .unknown);
+    }
 
--- What an accepted operation does to the records. An event starts at the current level; an exception is controlled by
--- the level that it enters, a return by the level that it leaves.
-unfoldable pub effectOf : State → Operation → ℕ → Effect
-effectOf s (Reset size v1p1) cycles = Start size
-effectOf s (Branch kind m source target) cycles =
-    made s (passed s (Branch kind m source target) cycles) (chosen (s .brbfcr) (record { code = kind }))
+-- What an accepted operation does to the records, where the running count is r with its cycles in it. An event starts at
+-- the current level; an exception is controlled by the level that it enters, a return by the level that it leaves.
+unfoldable pub effectOf : State → Operation → Running → Effect
+effectOf s (Reset size v1p1) r = Start size
+effectOf s (Branch kind m source target) r =
+    made s r (chosen (s .brbfcr) (record { code = kind }))
     (record { kind = kind; mispredicted = m; left = s .level; entered = s .level; source = source; target = target })
-effectOf s (Exception kind level source target) cycles =
-    made s (passed s (Exception kind level source target) cycles) (controlled s level (EXCEPTION (s .brbcr1)) (EXCEPTION (s .brbcr2)))
+effectOf s (Exception kind level source target) r =
+    made s r (controlled s level (EXCEPTION (s .brbcr1)) (EXCEPTION (s .brbcr2)))
     (record { kind = kind; mispredicted = 0; left = s .level; entered = level; source = source; target = target })
-effectOf s (Return level m source target) cycles =
-    made s (passed s (Return level m source target) cycles) (controlled s (s .level) (ERTN (s .brbcr1)) (ERTN (s .brbcr2)))
+effectOf s (Return level m source target) r =
+    made s r (controlled s (s .level) (ERTN (s .brbcr1)) (ERTN (s .brbcr2)))
     (record { kind = returnType; mispredicted = m; left = s .level; entered = level; source = source; target = target })
-effectOf s (Platform p) cycles = Keep
-effectOf s (Read r) cycles = Keep
-effectOf s (Write r value) cycles = Keep
-effectOf s Iall cycles = cond (isPerformed (iallOutcome s)) Clear Keep
-effectOf s Unknown cycles = Keep
+effectOf s (Platform p) r = Keep
+effectOf s (Read register) r = Keep
+effectOf s (Write register value) r = Keep
+effectOf s Iall r = cond (isPerformed (iallOutcome s)) Clear Keep
+effectOf s Unknown r = Keep
 
 -- "A record takes it, that event's cycles included, then it restarts from 0." BRB IALL "lets the count run on". A reset's
 -- own cycles are dropped.
@@ -120,22 +124,23 @@ runningAfter (Push new) r = record { count = 0; unknown = 0 }
 runningAfter Clear r = r
 runningAfter (Start size) r = runningAfterReset
 
-unfoldable pub stateAfter : State → Operation → ℕ → State
-stateAfter s o cycles = withRunning (runningAfter (effectOf s o cycles) (passed s o cycles)) (changed s o)
-
 -- The outcome of a step: its answer, and state and room as it leaves them.
 pub record Result : Type 0 where
   pub answer : Answer
   pub state : State
   pub room : List ℕ
 
-unfoldable pub accepted : State → Operation → ℕ → List ℕ → Result
-accepted s o cycles room =
+-- An accepted operation, where `after` is the state that it has changed and r the running count with its cycles in it.
+unfoldable pub acceptedWith : State → Operation → State → Running → List ℕ → Result
+acceptedWith s o after r room =
     record {
       answer = answerOf s o room;
-      state = stateAfter s o cycles;
-      room = roomAfter (s .size) (effectOf s o cycles) room;
+      state = withRunning (runningAfter (effectOf s o r) r) after;
+      room = roomAfter (s .size) (effectOf s o r) room;
     }
+
+unfoldable pub accepted : State → Operation → ℕ → List ℕ → Result
+accepted s o cycles room = acceptedWith s o (changed s o) (passed s (changed s o) cycles) room
 
 -- "A refusal returns its number and the value 0 and leaves state and room untouched."
 abbrev pub refused : ℕ → State → List ℕ → Result

@@ -1,4 +1,36 @@
 // The step: one operation on a state and a lent room (document 01, whole).
+ghost use mathlib.Core.Path.{_≡_};
+ghost use mathlib.Core.Bool.{cond};
+ghost use Prim.Native.Nat.{_+_, min};
+ghost use Rattle.state.specs.Sound.{cap};
+ghost use Rattle.access.specs.Access.{writeOutcome, meant, registerWritten};
+ghost use Rattle.recorder.specs.Step.{numberOf, valueOf, isPerformed, iallOutcome, changed, occasion, passed, effectOf, runningAfter};
+use access::Outcome;
+use access::access_outcome;
+use access::meant;
+use access::register_written;
+use access::write_outcome;
+use bits::pick;
+use event::Event;
+use event::controlled;
+use event::made;
+use filter::BranchType;
+use operation::Operation;
+use region::prohibited;
+use room::Effect;
+use state::CAP;
+use state::Running;
+use state::State;
+
+// Bits of P, of BRBCR_EL1 and of BRBCR_EL2, each as the power of two that it weighs.
+const NBRBIALL: u64 = 0x2000;
+
+const EXCEPTION: u64 = 0x80_0000;
+
+const ERTN: u64 = 0x40_0000;
+
+// The type of an exception return.
+const RETURN: u64 = 7;
 
 // What a step answers.
 pub enum Answer {
@@ -12,4 +44,265 @@ pub enum Answer {
     Trap3,
     // The number of the refusal.
     Refused(u64),
+}
+
+impl Answer {
+    // Document 01's number: a refusal's, or 0, 100, 102 or 103.
+    pub fn number(self) -> u64
+        ensures { λ r. ⌜ r ≡ numberOf self ⌝ }
+    {
+        match self {
+            Answer::Done => 0,
+            Answer::Value(_) => 0,
+            Answer::Undefined => 100,
+            Answer::Trap2 => 102,
+            Answer::Trap3 => 103,
+            Answer::Refused(n) => n,
+        }
+    }
+
+    // The value, 0 but for a read.
+    pub fn value(self) -> u64
+        ensures { λ r. ⌜ r ≡ valueOf self ⌝ }
+    {
+        match self {
+            Answer::Done => 0,
+            Answer::Value(v) => v,
+            Answer::Undefined => 0,
+            Answer::Trap2 => 0,
+            Answer::Trap3 => 0,
+            Answer::Refused(_) => 0,
+        }
+    }
+}
+
+fn is_performed(ended: Outcome) -> bool
+    ensures { λ r. ⌜ r ≡ isPerformed ended ⌝ }
+{
+    match ended {
+        Outcome::Performed => true,
+        Outcome::Undefined => false,
+        Outcome::Trap2 => false,
+        Outcome::Trap3 => false,
+    }
+}
+
+// How BRB IALL ends.
+fn iall_outcome(s: State) -> Outcome
+    ensures { λ r. ⌜ r ≡ iallOutcome s ⌝ }
+{
+    access_outcome(s, false, s.p / NBRBIALL % 2 == 1)
+}
+
+// The state after a write, performed or not.
+fn written(s: State, r: u64, value: u64) -> State
+    ensures { λ x. ⌜ x ≡ cond (isPerformed (writeOutcome s r)) (registerWritten s (meant s r) value) s ⌝ }
+{
+    if is_performed(write_outcome(s, r)) {
+        register_written(s, meant(s, r), value)
+    } else {
+        s
+    }
+}
+
+// The state once the operation has set level, P or registers.
+fn changed(s: State, o: Operation) -> State
+    ensures { λ x. ⌜ x ≡ changed s o ⌝ }
+{
+    match o {
+        Operation::Reset { size, v1p1 } => State::after_reset(size, v1p1),
+        Operation::Branch {
+            kind: _,
+            mispredicted: _,
+            source: _,
+            target: _,
+        } => s,
+        Operation::Exception {
+            kind: _,
+            target_level,
+            source: _,
+            target: _,
+        } => s.at_level(target_level),
+        Operation::Return {
+            target_level,
+            mispredicted: _,
+            source: _,
+            target: _,
+        } => s.at_level(target_level),
+        Operation::Platform { p } => s.with_platform(p),
+        Operation::Read { register: _ } => s,
+        Operation::Write { register, value } => written(s, register, value),
+        Operation::Iall => s,
+        Operation::Unknown => s,
+    }
+}
+
+// The running count with an operation's cycles: it stops at the cap. No sum can wrap.
+fn capped(count: u64, cycles: u64) -> u64
+    ensures { λ r. ⌜ r ≡ min (count + cycles) cap ⌝ }
+{
+    if CAP <= count {
+        return CAP;
+    }
+    if CAP - count <= cycles {
+        return CAP;
+    }
+    count + cycles
+}
+
+// An operation on which the next count becomes unknown; `after` is the state that it has changed.
+fn occasion(s: State, after: State) -> bool
+    ensures { λ r. ⌜ r ≡ occasion s after ⌝ }
+{
+    let hidden = prohibited(s, s.level);
+    let counting = s.counting();
+    let counts = after.counting();
+    let paused = s.paused();
+    let pauses = after.paused();
+    hidden | !counting & counts | paused & !pauses
+}
+
+// The running count once the operation has passed.
+fn passed(s: State, after: State, cycles: u64) -> Running
+    ensures { λ r. ⌜ r ≡ passed s after cycles ⌝ }
+{
+    let r = s.running;
+    Running {
+        count: capped(r.count, cycles),
+        unknown: pick(occasion(s, after), 1, r.unknown),
+    }
+}
+
+fn branch_effect(
+    s: State,
+    r: Running,
+    kind: u64,
+    mispredicted: u64,
+    source: u64,
+    target: u64,
+) -> Effect
+    ensures { λ x. ⌜ x ≡ effectOf s (Operation.Branch kind mispredicted source target) r ⌝ }
+{
+    let t = BranchType { code: kind };
+    let e = Event {
+        kind,
+        mispredicted,
+        left: s.level,
+        entered: s.level,
+        source,
+        target,
+    };
+    made(s, r, t.chosen(s.brbfcr), e)
+}
+
+// An exception is controlled by the level that it enters.
+fn exception_effect(s: State, r: Running, kind: u64, level: u64, source: u64, target: u64) -> Effect
+    ensures { λ x. ⌜ x ≡ effectOf s (Operation.Exception kind level source target) r ⌝ }
+{
+    let e = Event {
+        kind,
+        mispredicted: 0,
+        left: s.level,
+        entered: level,
+        source,
+        target,
+    };
+    let wanted = controlled(
+        s,
+        level,
+        s.brbcr1 / EXCEPTION % 2 == 1,
+        s.brbcr2 / EXCEPTION % 2 == 1,
+    );
+    made(s, r, wanted, e)
+}
+
+// A return is controlled by the level that it leaves.
+fn return_effect(
+    s: State,
+    r: Running,
+    level: u64,
+    mispredicted: u64,
+    source: u64,
+    target: u64,
+) -> Effect
+    ensures { λ x. ⌜ x ≡ effectOf s (Operation.Return level mispredicted source target) r ⌝ }
+{
+    let e = Event {
+        kind: RETURN,
+        mispredicted,
+        left: s.level,
+        entered: level,
+        source,
+        target,
+    };
+    let wanted = controlled(
+        s,
+        s.level,
+        s.brbcr1 / ERTN % 2 == 1,
+        s.brbcr2 / ERTN % 2 == 1,
+    );
+    made(s, r, wanted, e)
+}
+
+// BRB IALL clears the records where it is performed.
+fn iall_effect(s: State) -> Effect
+    ensures { λ x. ⌜ x ≡ cond (isPerformed (iallOutcome s)) Effect.Clear Effect.Keep ⌝ }
+{
+    if is_performed(iall_outcome(s)) {
+        Effect::Clear
+    } else {
+        Effect::Keep
+    }
+}
+
+// What an operation does to the records, where the running count is r with its cycles in it.
+fn effect_of(s: State, o: Operation, r: Running) -> Effect
+    ensures { λ x. ⌜ x ≡ effectOf s o r ⌝ }
+{
+    match o {
+        Operation::Reset { size, v1p1: _ } => Effect::Start(size),
+        Operation::Branch {
+            kind,
+            mispredicted,
+            source,
+            target,
+        } => { branch_effect(s, r, kind, mispredicted, source, target) }
+        Operation::Exception {
+            kind,
+            target_level,
+            source,
+            target,
+        } => { exception_effect(s, r, kind, target_level, source, target) }
+        Operation::Return {
+            target_level,
+            mispredicted,
+            source,
+            target,
+        } => { return_effect(s, r, target_level, mispredicted, source, target) }
+        Operation::Platform { p: _ } => Effect::Keep,
+        Operation::Read { register: _ } => Effect::Keep,
+        Operation::Write {
+            register: _,
+            value: _,
+        } => Effect::Keep,
+        Operation::Iall => iall_effect(s),
+        Operation::Unknown => Effect::Keep,
+    }
+}
+
+fn running_after(effect: Effect, r: Running) -> Running
+    ensures { λ x. ⌜ x ≡ runningAfter effect r ⌝ }
+{
+    match effect {
+        Effect::Keep => r,
+        Effect::Push(_) => Running {
+            count: 0,
+            unknown: 0,
+        },
+        Effect::Clear => r,
+        Effect::Start(_) => Running {
+            count: 0,
+            unknown: 1,
+        },
+    }
 }

@@ -1,6 +1,6 @@
 -- The records as a list, newest first, and their places in the lent room. Document 01, "Which events become records",
 -- last paragraph: "In the room, record r is BRBINF, BRBSRC, BRBTGT at 3r."
-use Prim.Native.Nat.{ℕ, zero, suc, _*_, _-_}
+use Prim.Native.Nat.{ℕ, zero, suc, _+_, _*_, _-_}
 use mathlib.Core.Bool.{cond, _&&_}
 use mathlib.Core.List.{List, [], _∷_, _++_}
 use lib.Dec.{leb}
@@ -47,3 +47,14 @@ roomAfter size Keep room = room
 roomAfter size (Push r) room = pushed size r room
 roomAfter size Clear room = cleared size room
 roomAfter size (Start n) room = cleared n room
+
+-- The size after an effect: a reset brings its own.
+abbrev pub sizeAfter : ℕ → Effect → ℕ
+sizeAfter size Keep = size
+sizeAfter size (Push r) = size
+sizeAfter size Clear = size
+sizeAfter size (Start n) = n
+
+-- The record whose numbers stand at place 3r of a room.
+abbrev pub placed : ℕ → List ℕ → Record
+placed r room = record { inf = getD room (3 * r) 0; source = getD room (3 * r + 1) 0; target = getD room (3 * r + 2) 0 }

@@ -1,7 +1,7 @@
 // The state of the model (document 01, "Operations" and refusal 7).
 ghost use mathlib.Core.Path.{_≡_};
 ghost use mathlib.Core.Bool.{Bool};
-ghost use Rattle.state.specs.Named.{EL2Enabled, EL3Recorded, counting, predictionShown, PAUSED, BANK};
+ghost use Rattle.state.specs.Named.{EL2Enabled, EL3Recorded, counting, predictionShown, PAUSED, BANK, afterReset, atLevel, withPlatform, withRunning};
 ghost use Rattle.state.specs.Sound.{closed, sound};
 ghost use Rattle.state.specs.Words.{stored, loaded};
 
@@ -117,6 +117,48 @@ impl State {
             & (self.brbfcr & FILTER_MASK == self.brbfcr);
         let closed = self.closed(self.level);
         listed & !closed & (running.count <= CAP) & (running.unknown <= 1)
+    }
+}
+
+impl State {
+    pub fn after_reset(size: u64, v1p1: u64) -> State
+        ensures { λ r. ⌜ r ≡ afterReset size v1p1 ⌝ }
+    {
+        let running = Running {
+            count: 0,
+            unknown: 1,
+        };
+        State {
+            level: 3,
+            size,
+            v1p1,
+            p: 0,
+            brbcr1: 0,
+            brbcr2: 0,
+            brbfcr: 0,
+            running,
+        }
+    }
+
+    pub fn at_level(mut self, level: u64) -> State
+        ensures { λ r. ⌜ r ≡ atLevel level self ⌝ }
+    {
+        self.level = level;
+        self
+    }
+
+    pub fn with_platform(mut self, p: u64) -> State
+        ensures { λ r. ⌜ r ≡ withPlatform p self ⌝ }
+    {
+        self.p = p;
+        self
+    }
+
+    pub fn with_running(mut self, running: Running) -> State
+        ensures { λ r. ⌜ r ≡ withRunning running self ⌝ }
+    {
+        self.running = running;
+        self
     }
 }
 

@@ -1,0 +1,14 @@
+-- What a branch does to the records, as defined.
+use borrow.Author.Needs.{needs}
+use Rattle.recorder.specs.Step.{effectOf}
+use Rattle.recorder.proofs.branch_effect.Statement.{statement}
+use Rattle.recorder.proofs.branch_effect.Tie as tie
+
+pub branch-effect-spec : {M : Type 1} → statement M
+unfolding effectOf
+branch-effect-spec =
+    tie.close
+    (tie.spec
+    (λ _ _. tt)
+    (λ _ _. tt)
+    (λ c. cc))

@@ -1,0 +1,12 @@
+-- What BRB IALL does to the records, as defined.
+use Rattle.recorder.proofs.iall_effect.Statement.{statement}
+use Rattle.recorder.proofs.iall_effect.Tie as tie
+
+pub iall-effect-spec : {M : Type 1} → statement M
+iall-effect-spec =
+    tie.close
+    (tie.spec
+    (λ _ _. tt)
+    (λ _ _. tt)
+    (λ c. rw (← c .before .before .iall-outcome .ensures, ← c .before .is-performed .ensures, c .if1 .taken))
+    (λ c. rw (← c .before .before .iall-outcome .ensures, ← c .before .is-performed .ensures, c .if1 .left)))

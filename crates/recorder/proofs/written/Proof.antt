@@ -1,0 +1,14 @@
+-- The state after a write, as defined.
+use Rattle.recorder.proofs.written.Statement.{statement}
+use Rattle.recorder.proofs.written.Tie as tie
+
+pub written-spec : {M : Type 1} → statement M
+written-spec =
+    tie.close
+    (tie.spec
+    (λ _ _. tt)
+    (λ _ _. tt)
+    (λ _ _. tt)
+    (λ _ _. tt)
+    (λ c. rw (← c .before .before .before .before .write-outcome .ensures, ← c .before .before .before .is-performed .ensures, c .before .before .if1 .taken, ← c .before .meant .ensures, c .register-written .ensures))
+    (λ c. rw (← c .before .before .write-outcome .ensures, ← c .before .is-performed .ensures, c .if1 .left)))
