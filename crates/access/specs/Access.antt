@@ -4,7 +4,7 @@ use mathlib.Core.Bool.{Bool, true, false, cond, _&&_, _||_, not}
 use lib.Dec.{eqb, leb}
 use mathlib.Core.List.{List}
 use Rattle.state.specs.declared.State.{State}
-use Rattle.state.specs.Named.{NS, E2H, SBRBE, FGTEn, nBRBDATA, nBRBCTLRead, nBRBCTLWrite, nBRBIDR, EL2Enabled, BANK}
+use Rattle.state.specs.Named.{NS, E2H, SBRBE, FGTEn, nBRBDATA, nBRBCTLRead, nBRBCTLWrite, nBRBIDR, nBRBIALL, EL2Enabled, BANK}
 use Rattle.state.specs.Sound.{kept, controlMask, filterMask}
 use Rattle.room.specs.declared.Record.{Record}
 use Rattle.room.specs.Room.{numbered}
@@ -50,6 +50,16 @@ readOutcome s r = outcome s (hiddenRegister s r) (permitted s false r)
 -- "Writing 0 or a record register: UNDEFINED."
 unfoldable pub writeOutcome : State → ℕ → Outcome
 writeOutcome s r = outcome s (eqb r 0 || isRecordRegister r || hiddenRegister s r) (permitted s true r)
+
+-- BRB IALL is an access by nBRBIALL.
+unfoldable pub iallOutcome : State → Outcome
+iallOutcome s = outcome s false (nBRBIALL s)
+
+abbrev pub isPerformed : Outcome → Bool
+isPerformed Performed = true
+isPerformed Undefined = false
+isPerformed Trap2 = false
+isPerformed Trap3 = false
 
 -- "At EL2 with E2H 1, register 1 means register 2."
 abbrev pub meant : State → ℕ → ℕ

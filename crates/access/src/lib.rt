@@ -2,7 +2,7 @@
 ghost use mathlib.Core.Path.{_≡_};
 ghost use mathlib.Core.Bool.{true, false};
 ghost use Rattle.room.specs.Room.{records};
-ghost use Rattle.access.specs.Access.{permitted, trapped2, trapped3, outcome, readOutcome, writeOutcome, meant, shownNumber, registerValue, registerWritten};
+ghost use Rattle.access.specs.Access.{permitted, trapped2, trapped3, outcome, readOutcome, writeOutcome, iallOutcome, isPerformed, meant, shownNumber, registerValue, registerWritten};
 use bits::pick;
 use bits::pick_bool;
 use room::record_at;
@@ -26,6 +26,8 @@ const NBRBCTL_READ: u64 = 0x400;
 const NBRBCTL_WRITE: u64 = 0x800;
 
 const NBRBIDR: u64 = 0x1000;
+
+const NBRBIALL: u64 = 0x2000;
 
 // How an access ends.
 pub enum Outcome {
@@ -94,6 +96,24 @@ pub fn write_outcome(s: State, r: u64) -> Outcome
     let nbit = permitted(s, true, r);
     let undefined = (r == 0) | (32 <= r) & (r <= 127) | (s.level == 1) & (r == 2);
     access_outcome(s, undefined, nbit)
+}
+
+pub fn is_performed(ended: Outcome) -> bool
+    ensures { λ r. ⌜ r ≡ isPerformed ended ⌝ }
+{
+    match ended {
+        Outcome::Performed => true,
+        Outcome::Undefined => false,
+        Outcome::Trap2 => false,
+        Outcome::Trap3 => false,
+    }
+}
+
+// How BRB IALL ends.
+pub fn iall_outcome(s: State) -> Outcome
+    ensures { λ r. ⌜ r ≡ iallOutcome s ⌝ }
+{
+    access_outcome(s, false, s.p / NBRBIALL % 2 == 1)
 }
 
 // The register that an access means.

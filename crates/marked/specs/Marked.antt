@@ -14,10 +14,11 @@ use Rattle.state.specs.Sound.{closed, sound}
 use Rattle.room.specs.Room.{records, numbered, pushed, cleared, roomAfter}
 use Rattle.region.specs.Region.{enabled, prohibited}
 use Rattle.event.specs.Event.{controlled, valid, countUnknown, MPRED, BRBINF, recordOf, made}
-use Rattle.access.specs.Access.{permitted, trapped2, outcome, readOutcome, writeOutcome, shownRecord, registerValue, registerWritten}
+use Rattle.access.specs.Access.{permitted, trapped2, outcome, readOutcome, writeOutcome, iallOutcome, shownRecord, shownNumber, registerValue, registerWritten}
 use Rattle.operation.specs.Operation.{operationOf}
 use Rattle.operation.specs.Refusal.{unknownCode, notReset, outsideList, notPermitted, roomTooShort, refusalOf}
-use Rattle.recorder.specs.Step.{iallOutcome, answerOf, changed, occasion, passed, effectOf, stateAfter, accepted, stepOf}
+use Rattle.change.specs.Change.{changed, occasion, passed, effectOf}
+use Rattle.recorder.specs.Step.{answerOf, acceptedWith, accepted, stepOf}
 use Rattle.recording.specs.Recording.{fieldCount, numbersAt, operationAt, bytesOfAll, operationBytes}
 use Rattle.recording.specs.RecordedStep.{recordedStep}
 
@@ -86,5 +87,5 @@ cases =
     ∷ []
 
 pub marked : map computed cases ≡ cases
-unfolding bitLength exponent mantissa encoded countOf decoded numberIn numberAt bytesIn bytesOf closed sound records numbered pushed cleared roomAfter enabled prohibited filterBit chosen controlled valid countUnknown MPRED BRBINF recordOf made permitted trapped2 outcome readOutcome writeOutcome shownRecord registerValue registerWritten operationOf unknownCode notReset outsideList notPermitted roomTooShort refusalOf iallOutcome answerOf changed occasion passed effectOf stateAfter accepted stepOf fieldCount numbersAt operationAt bytesOfAll operationBytes recordedStep hexDigits decimalIn decimal lineOf replayFrom replayOf
+unfolding bitLength exponent mantissa encoded countOf decoded numberIn numberAt bytesIn bytesOf closed sound records numbered pushed cleared roomAfter enabled prohibited filterBit chosen controlled valid countUnknown MPRED BRBINF recordOf made permitted trapped2 outcome readOutcome writeOutcome iallOutcome shownRecord shownNumber registerValue registerWritten operationOf unknownCode notReset outsideList notPermitted roomTooShort refusalOf changed occasion passed effectOf answerOf acceptedWith accepted stepOf fieldCount numbersAt operationAt bytesOfAll operationBytes recordedStep hexDigits decimalIn decimal lineOf replayFrom replayOf
 marked = refl

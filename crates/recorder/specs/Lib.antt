@@ -1,2 +1,3 @@
 pub mod Step
+pub mod Both
 pub mod Lent

@@ -1,36 +1,21 @@
 // The step: one operation on a state and a lent room (document 01, whole).
 ghost use mathlib.Core.Path.{_≡_};
-ghost use mathlib.Core.Bool.{cond};
-ghost use Prim.Native.Nat.{_+_, min};
-ghost use Rattle.state.specs.Sound.{cap};
-ghost use Rattle.access.specs.Access.{writeOutcome, meant, registerWritten};
-ghost use Rattle.recorder.specs.Step.{numberOf, valueOf, isPerformed, iallOutcome, changed, occasion, passed, effectOf, runningAfter};
+ghost use Rattle.recorder.specs.Step.{numberOf, valueOf, answered, answerOf, accepted, stepOf};
+ghost use Rattle.recorder.specs.Both.{both};
 use access::Outcome;
-use access::access_outcome;
+use access::iall_outcome;
 use access::meant;
-use access::register_written;
+use access::read_outcome;
+use access::register_value;
 use access::write_outcome;
-use bits::pick;
-use event::Event;
-use event::controlled;
-use event::made;
-use filter::BranchType;
+use change::changed;
+use change::effect_of;
+use change::passed;
+use change::running_after;
 use operation::Operation;
-use region::prohibited;
-use room::Effect;
-use state::CAP;
-use state::Running;
+use operation::refusal;
+use room::apply;
 use state::State;
-
-// Bits of P, of BRBCR_EL1 and of BRBCR_EL2, each as the power of two that it weighs.
-const NBRBIALL: u64 = 0x2000;
-
-const EXCEPTION: u64 = 0x80_0000;
-
-const ERTN: u64 = 0x40_0000;
-
-// The type of an exception return.
-const RETURN: u64 = 7;
 
 // What a step answers.
 pub enum Answer {
@@ -76,233 +61,91 @@ impl Answer {
     }
 }
 
-fn is_performed(ended: Outcome) -> bool
-    ensures { λ r. ⌜ r ≡ isPerformed ended ⌝ }
+// A step's answer, and the state as it leaves it; the room it leaves is the lent one.
+pub struct Stepped {
+    pub answer: Answer,
+    pub state: State,
+}
+
+// What an access answers.
+fn answered(ended: Outcome, performed: Answer) -> Answer
+    ensures { λ r. ⌜ r ≡ answered ended performed ⌝ }
 {
     match ended {
-        Outcome::Performed => true,
-        Outcome::Undefined => false,
-        Outcome::Trap2 => false,
-        Outcome::Trap3 => false,
+        Outcome::Performed => performed,
+        Outcome::Undefined => Answer::Undefined,
+        Outcome::Trap2 => Answer::Trap2,
+        Outcome::Trap3 => Answer::Trap3,
     }
 }
 
-// How BRB IALL ends.
-fn iall_outcome(s: State) -> Outcome
-    ensures { λ r. ⌜ r ≡ iallOutcome s ⌝ }
+// What a read answers.
+fn read_answer(s: State, room: &[u64], register: u64) -> Answer
+    ensures { λ r. ⌜ r ≡ answerOf s (Operation.Read register) (now (room .entry)) ⌝ }
 {
-    access_outcome(s, false, s.p / NBRBIALL % 2 == 1)
+    let value = register_value(s, room, meant(s, register));
+    answered(read_outcome(s, register), Answer::Value(value))
 }
 
-// The state after a write, performed or not.
-fn written(s: State, r: u64, value: u64) -> State
-    ensures { λ x. ⌜ x ≡ cond (isPerformed (writeOutcome s r)) (registerWritten s (meant s r) value) s ⌝ }
-{
-    if is_performed(write_outcome(s, r)) {
-        register_written(s, meant(s, r), value)
-    } else {
-        s
-    }
-}
-
-// The state once the operation has set level, P or registers.
-fn changed(s: State, o: Operation) -> State
-    ensures { λ x. ⌜ x ≡ changed s o ⌝ }
+// What an accepted operation answers.
+fn answer_of(s: State, room: &[u64], o: Operation) -> Answer
+    ensures { λ r. ⌜ r ≡ answerOf s o (now (room .entry)) ⌝ }
 {
     match o {
-        Operation::Reset { size, v1p1 } => State::after_reset(size, v1p1),
+        Operation::Reset { size: _, v1p1: _ } => Answer::Done,
         Operation::Branch {
             kind: _,
             mispredicted: _,
             source: _,
             target: _,
-        } => s,
+        } => Answer::Done,
         Operation::Exception {
             kind: _,
-            target_level,
+            target_level: _,
             source: _,
             target: _,
-        } => s.at_level(target_level),
+        } => Answer::Done,
         Operation::Return {
-            target_level,
+            target_level: _,
             mispredicted: _,
             source: _,
             target: _,
-        } => s.at_level(target_level),
-        Operation::Platform { p } => s.with_platform(p),
-        Operation::Read { register: _ } => s,
-        Operation::Write { register, value } => written(s, register, value),
-        Operation::Iall => s,
-        Operation::Unknown => s,
+        } => Answer::Done,
+        Operation::Platform { p: _ } => Answer::Done,
+        Operation::Read { register } => read_answer(s, room, register),
+        Operation::Write { register, value: _ } => answered(
+            write_outcome(s, register),
+            Answer::Done,
+        ),
+        Operation::Iall => answered(iall_outcome(s), Answer::Done),
+        Operation::Unknown => Answer::Done,
     }
 }
 
-// The running count with an operation's cycles: it stops at the cap. No sum can wrap.
-fn capped(count: u64, cycles: u64) -> u64
-    ensures { λ r. ⌜ r ≡ min (count + cycles) cap ⌝ }
+// An accepted operation: all is decided first, and then the room is written.
+fn accept(s: State, room: &mut [u64], o: Operation, cycles: u64) -> Stepped
+    ensures { λ r. ⌜ both r (now (room .exit)) ≡ accepted s o cycles (now (room .entry)) ⌝ }
 {
-    if CAP <= count {
-        return CAP;
-    }
-    if CAP - count <= cycles {
-        return CAP;
-    }
-    count + cycles
+    let answer = answer_of(s, &room[..], o);
+    let after = changed(s, o);
+    let running = passed(s, after, cycles);
+    let effect = effect_of(s, o, running);
+    let state = after.with_running(running_after(effect, running));
+    apply(room, s.size, effect);
+    Stepped { answer, state }
 }
 
-// An operation on which the next count becomes unknown; `after` is the state that it has changed.
-fn occasion(s: State, after: State) -> bool
-    ensures { λ r. ⌜ r ≡ occasion s after ⌝ }
+// One operation, in any state, with any lent room: refused, and then nothing is changed, or accepted.
+pub fn step(s: State, room: &mut [u64], o: Operation, cycles: u64) -> Stepped
+    ensures { λ r. ⌜ both r (now (room .exit)) ≡ stepOf s o cycles (now (room .entry)) ⌝ }
 {
-    let hidden = prohibited(s, s.level);
-    let counting = s.counting();
-    let counts = after.counting();
-    let paused = s.paused();
-    let pauses = after.paused();
-    hidden | !counting & counts | paused & !pauses
-}
-
-// The running count once the operation has passed.
-fn passed(s: State, after: State, cycles: u64) -> Running
-    ensures { λ r. ⌜ r ≡ passed s after cycles ⌝ }
-{
-    let r = s.running;
-    Running {
-        count: capped(r.count, cycles),
-        unknown: pick(occasion(s, after), 1, r.unknown),
-    }
-}
-
-fn branch_effect(
-    s: State,
-    r: Running,
-    kind: u64,
-    mispredicted: u64,
-    source: u64,
-    target: u64,
-) -> Effect
-    ensures { λ x. ⌜ x ≡ effectOf s (Operation.Branch kind mispredicted source target) r ⌝ }
-{
-    let t = BranchType { code: kind };
-    let e = Event {
-        kind,
-        mispredicted,
-        left: s.level,
-        entered: s.level,
-        source,
-        target,
-    };
-    made(s, r, t.chosen(s.brbfcr), e)
-}
-
-// An exception is controlled by the level that it enters.
-fn exception_effect(s: State, r: Running, kind: u64, level: u64, source: u64, target: u64) -> Effect
-    ensures { λ x. ⌜ x ≡ effectOf s (Operation.Exception kind level source target) r ⌝ }
-{
-    let e = Event {
-        kind,
-        mispredicted: 0,
-        left: s.level,
-        entered: level,
-        source,
-        target,
-    };
-    let wanted = controlled(
-        s,
-        level,
-        s.brbcr1 / EXCEPTION % 2 == 1,
-        s.brbcr2 / EXCEPTION % 2 == 1,
-    );
-    made(s, r, wanted, e)
-}
-
-// A return is controlled by the level that it leaves.
-fn return_effect(
-    s: State,
-    r: Running,
-    level: u64,
-    mispredicted: u64,
-    source: u64,
-    target: u64,
-) -> Effect
-    ensures { λ x. ⌜ x ≡ effectOf s (Operation.Return level mispredicted source target) r ⌝ }
-{
-    let e = Event {
-        kind: RETURN,
-        mispredicted,
-        left: s.level,
-        entered: level,
-        source,
-        target,
-    };
-    let wanted = controlled(
-        s,
-        s.level,
-        s.brbcr1 / ERTN % 2 == 1,
-        s.brbcr2 / ERTN % 2 == 1,
-    );
-    made(s, r, wanted, e)
-}
-
-// BRB IALL clears the records where it is performed.
-fn iall_effect(s: State) -> Effect
-    ensures { λ x. ⌜ x ≡ cond (isPerformed (iallOutcome s)) Effect.Clear Effect.Keep ⌝ }
-{
-    if is_performed(iall_outcome(s)) {
-        Effect::Clear
+    let number = refusal(s, o, room.len());
+    if number == 0 {
+        accept(s, room, o, cycles)
     } else {
-        Effect::Keep
-    }
-}
-
-// What an operation does to the records, where the running count is r with its cycles in it.
-fn effect_of(s: State, o: Operation, r: Running) -> Effect
-    ensures { λ x. ⌜ x ≡ effectOf s o r ⌝ }
-{
-    match o {
-        Operation::Reset { size, v1p1: _ } => Effect::Start(size),
-        Operation::Branch {
-            kind,
-            mispredicted,
-            source,
-            target,
-        } => { branch_effect(s, r, kind, mispredicted, source, target) }
-        Operation::Exception {
-            kind,
-            target_level,
-            source,
-            target,
-        } => { exception_effect(s, r, kind, target_level, source, target) }
-        Operation::Return {
-            target_level,
-            mispredicted,
-            source,
-            target,
-        } => { return_effect(s, r, target_level, mispredicted, source, target) }
-        Operation::Platform { p: _ } => Effect::Keep,
-        Operation::Read { register: _ } => Effect::Keep,
-        Operation::Write {
-            register: _,
-            value: _,
-        } => Effect::Keep,
-        Operation::Iall => iall_effect(s),
-        Operation::Unknown => Effect::Keep,
-    }
-}
-
-fn running_after(effect: Effect, r: Running) -> Running
-    ensures { λ x. ⌜ x ≡ runningAfter effect r ⌝ }
-{
-    match effect {
-        Effect::Keep => r,
-        Effect::Push(_) => Running {
-            count: 0,
-            unknown: 0,
-        },
-        Effect::Clear => r,
-        Effect::Start(_) => Running {
-            count: 0,
-            unknown: 1,
-        },
+        Stepped {
+            answer: Answer::Refused(number),
+            state: s,
+        }
     }
 }

@@ -1,8 +1,8 @@
 -- What an operation does to the records, as defined: each arm knows its operation.
 use borrow.Author.Needs.{needs}
-use Rattle.recorder.specs.Step.{effectOf}
-use Rattle.recorder.proofs.effect_of.Statement.{statement}
-use Rattle.recorder.proofs.effect_of.Tie as tie
+use Rattle.change.specs.Change.{effectOf}
+use Rattle.change.proofs.effect_of.Statement.{statement}
+use Rattle.change.proofs.effect_of.Tie as tie
 
 pub effect-of-spec : {M : Type 1} → statement M
 unfolding effectOf

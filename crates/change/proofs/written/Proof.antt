@@ -1,6 +1,6 @@
 -- The state after a write, as defined.
-use Rattle.recorder.proofs.written.Statement.{statement}
-use Rattle.recorder.proofs.written.Tie as tie
+use Rattle.change.proofs.written.Statement.{statement}
+use Rattle.change.proofs.written.Tie as tie
 
 pub written-spec : {M : Type 1} → statement M
 written-spec =

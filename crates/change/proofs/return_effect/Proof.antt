@@ -1,8 +1,7 @@
 -- What a return does to the records, as defined: its control is by the level that it leaves.
-use borrow.Author.Needs.{needs}
-use Rattle.recorder.specs.Step.{effectOf}
-use Rattle.recorder.proofs.return_effect.Statement.{statement}
-use Rattle.recorder.proofs.return_effect.Tie as tie
+use Rattle.change.specs.Change.{effectOf}
+use Rattle.change.proofs.return_effect.Statement.{statement}
+use Rattle.change.proofs.return_effect.Tie as tie
 
 pub return-effect-spec : {M : Type 1} → statement M
 unfolding effectOf

@@ -1,8 +1,7 @@
 -- What an exception does to the records, as defined: its control is by the level that it enters.
-use borrow.Author.Needs.{needs}
-use Rattle.recorder.specs.Step.{effectOf}
-use Rattle.recorder.proofs.exception_effect.Statement.{statement}
-use Rattle.recorder.proofs.exception_effect.Tie as tie
+use Rattle.change.specs.Change.{effectOf}
+use Rattle.change.proofs.exception_effect.Statement.{statement}
+use Rattle.change.proofs.exception_effect.Tie as tie
 
 pub exception-effect-spec : {M : Type 1} → statement M
 unfolding effectOf

@@ -1,8 +1,7 @@
 -- The running count with an operation's cycles, as defined.
-use borrow.Author.Needs.{needs}
-use Rattle.recorder.specs.Step.{passed}
-use Rattle.recorder.proofs.passed.Statement.{statement}
-use Rattle.recorder.proofs.passed.Tie as tie
+use Rattle.change.specs.Change.{passed}
+use Rattle.change.proofs.passed.Statement.{statement}
+use Rattle.change.proofs.passed.Tie as tie
 
 pub passed-spec : {M : Type 1} → statement M
 unfolding passed

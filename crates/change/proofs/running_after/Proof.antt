@@ -1,7 +1,7 @@
 -- The running count after an effect, as defined: each arm knows its effect.
 use borrow.Author.Needs.{needs}
-use Rattle.recorder.proofs.running_after.Statement.{statement}
-use Rattle.recorder.proofs.running_after.Tie as tie
+use Rattle.change.proofs.running_after.Statement.{statement}
+use Rattle.change.proofs.running_after.Tie as tie
 
 pub running-after-spec : {M : Type 1} → statement M
 running-after-spec =

@@ -1,8 +1,7 @@
 -- The occasions of an unknown count, as defined.
-use borrow.Author.Needs.{needs}
-use Rattle.recorder.specs.Step.{occasion}
-use Rattle.recorder.proofs.occasion.Statement.{statement}
-use Rattle.recorder.proofs.occasion.Tie as tie
+use Rattle.change.specs.Change.{occasion}
+use Rattle.change.proofs.occasion.Statement.{statement}
+use Rattle.change.proofs.occasion.Tie as tie
 
 pub occasion-spec : {M : Type 1} → statement M
 unfolding occasion

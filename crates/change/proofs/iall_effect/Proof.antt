@@ -1,6 +1,6 @@
 -- What BRB IALL does to the records, as defined.
-use Rattle.recorder.proofs.iall_effect.Statement.{statement}
-use Rattle.recorder.proofs.iall_effect.Tie as tie
+use Rattle.change.proofs.iall_effect.Statement.{statement}
+use Rattle.change.proofs.iall_effect.Tie as tie
 
 pub iall-effect-spec : {M : Type 1} → statement M
 iall-effect-spec =

@@ -1,8 +1,8 @@
 -- The state that an operation has changed, as defined: each arm knows its operation.
 use borrow.Author.Needs.{needs}
-use Rattle.recorder.specs.Step.{changed}
-use Rattle.recorder.proofs.changed.Statement.{statement}
-use Rattle.recorder.proofs.changed.Tie as tie
+use Rattle.change.specs.Change.{changed}
+use Rattle.change.proofs.changed.Statement.{statement}
+use Rattle.change.proofs.changed.Tie as tie
 
 pub changed-spec : {M : Type 1} → statement M
 unfolding changed

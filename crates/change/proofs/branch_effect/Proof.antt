@@ -1,8 +1,7 @@
 -- What a branch does to the records, as defined.
-use borrow.Author.Needs.{needs}
-use Rattle.recorder.specs.Step.{effectOf}
-use Rattle.recorder.proofs.branch_effect.Statement.{statement}
-use Rattle.recorder.proofs.branch_effect.Tie as tie
+use Rattle.change.specs.Change.{effectOf}
+use Rattle.change.proofs.branch_effect.Statement.{statement}
+use Rattle.change.proofs.branch_effect.Tie as tie
 
 pub branch-effect-spec : {M : Type 1} → statement M
 unfolding effectOf

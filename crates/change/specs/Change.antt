@@ -1,0 +1,69 @@
+-- What an accepted operation changes: level, P and registers, the running count, and the records.
+use Prim.Native.Nat.{ℕ, _+_, min}
+use mathlib.Core.Bool.{Bool, cond, _&&_, _||_, not}
+use Rattle.state.specs.declared.State.{State}
+use Rattle.state.specs.declared.Running.{Running}
+use Rattle.state.specs.Named.{counting, PAUSED, runningAfterReset, afterReset, atLevel, withPlatform}
+use Rattle.state.specs.Sound.{cap}
+use Rattle.room.specs.declared.Effect.{Effect}
+use Rattle.room.specs.declared.Effect.the-variants.{Keep, Push, Clear, Start}
+use Rattle.region.specs.Region.{prohibited}
+use Rattle.filter.specs.Filter.{returnType, chosen}
+use Rattle.event.specs.Event.{EXCEPTION, ERTN, controlled, made}
+use Rattle.access.specs.Access.{writeOutcome, iallOutcome, isPerformed, meant, registerWritten}
+use Rattle.operation.specs.declared.Operation.{Operation}
+use Rattle.operation.specs.declared.Operation.the-variants.{Reset, Branch, Exception, Return, Platform, Read, Write, Iall, Unknown}
+
+-- The state once the operation has set level, P or registers; the running count is not yet touched, but by a reset.
+unfoldable pub changed : State → Operation → State
+changed s (Reset size v1p1) = afterReset size v1p1
+changed s (Branch kind m source target) = s
+changed s (Exception kind level source target) = atLevel level s
+changed s (Return level m source target) = atLevel level s
+changed s (Platform p) = withPlatform p s
+changed s (Read r) = s
+changed s (Write r value) = cond (isPerformed (writeOutcome s r)) (registerWritten s (meant s r) value) s
+changed s Iall = s
+changed s Unknown = s
+
+-- Document 01, "Cycles": the occasions on which the next count becomes unknown, from the state before an accepted operation
+-- and the state that it has changed. "an accepted operation, this one included, began at a prohibited level (house); a
+-- write turned counting on; a write cleared PAUSED from 1." R_MJDLC. (Nothing but a write or a reset changes those bits.)
+unfoldable pub occasion : State → State → Bool
+occasion before after =
+    prohibited before (before .level) || not (counting before) && counting after || PAUSED before && not (PAUSED after)
+
+-- "The running count adds each accepted operation's cycles and stops at 1,048,576."
+unfoldable pub passed : State → State → ℕ → Running
+passed before after cycles =
+    record {
+      count = min (before .running .count + cycles) cap;
+      unknown = cond (occasion before after) 1 (before .running .unknown);
+    }
+
+-- What an accepted operation does to the records, where the running count is r with its cycles in it. An event starts at
+-- the current level; an exception is controlled by the level that it enters, a return by the level that it leaves.
+unfoldable pub effectOf : State → Operation → Running → Effect
+effectOf s (Reset size v1p1) r = Start size
+effectOf s (Branch kind m source target) r =
+    made s r (chosen (s .brbfcr) (record { code = kind }))
+    (record { kind = kind; mispredicted = m; left = s .level; entered = s .level; source = source; target = target })
+effectOf s (Exception kind level source target) r =
+    made s r (controlled s level (EXCEPTION (s .brbcr1)) (EXCEPTION (s .brbcr2)))
+    (record { kind = kind; mispredicted = 0; left = s .level; entered = level; source = source; target = target })
+effectOf s (Return level m source target) r =
+    made s r (controlled s (s .level) (ERTN (s .brbcr1)) (ERTN (s .brbcr2)))
+    (record { kind = returnType; mispredicted = m; left = s .level; entered = level; source = source; target = target })
+effectOf s (Platform p) r = Keep
+effectOf s (Read register) r = Keep
+effectOf s (Write register value) r = Keep
+effectOf s Iall r = cond (isPerformed (iallOutcome s)) Clear Keep
+effectOf s Unknown r = Keep
+
+-- "A record takes it, that event's cycles included, then it restarts from 0." BRB IALL "lets the count run on". A reset's
+-- own cycles are dropped.
+abbrev pub runningAfter : Effect → Running → Running
+runningAfter Keep r = r
+runningAfter (Push new) r = record { count = 0; unknown = 0 }
+runningAfter Clear r = r
+runningAfter (Start size) r = runningAfterReset

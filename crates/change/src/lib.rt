@@ -1,0 +1,245 @@
+// What an accepted operation changes: level, P and registers, the running count, and the records (document 01, "Operations"
+// and "Cycles").
+ghost use mathlib.Core.Path.{_≡_};
+ghost use mathlib.Core.Bool.{cond};
+ghost use Prim.Native.Nat.{_+_, min};
+ghost use Rattle.state.specs.Sound.{cap};
+ghost use Rattle.access.specs.Access.{writeOutcome, iallOutcome, isPerformed, meant, registerWritten};
+ghost use Rattle.change.specs.Change.{changed, occasion, passed, effectOf, runningAfter};
+use access::iall_outcome;
+use access::is_performed;
+use access::meant;
+use access::register_written;
+use access::write_outcome;
+use bits::pick;
+use event::Event;
+use event::controlled;
+use event::made;
+use filter::BranchType;
+use operation::Operation;
+use region::prohibited;
+use room::Effect;
+use state::CAP;
+use state::Running;
+use state::State;
+
+// Bits of BRBCR_EL1 and of BRBCR_EL2, each as the power of two that it weighs.
+const EXCEPTION: u64 = 0x80_0000;
+
+const ERTN: u64 = 0x40_0000;
+
+// The type of an exception return.
+const RETURN: u64 = 7;
+
+// The state after a write, performed or not.
+fn written(s: State, r: u64, value: u64) -> State
+    ensures { λ x. ⌜ x ≡ cond (isPerformed (writeOutcome s r)) (registerWritten s (meant s r) value) s ⌝ }
+{
+    if is_performed(write_outcome(s, r)) {
+        register_written(s, meant(s, r), value)
+    } else {
+        s
+    }
+}
+
+// The state once the operation has set level, P or registers.
+pub fn changed(s: State, o: Operation) -> State
+    ensures { λ x. ⌜ x ≡ changed s o ⌝ }
+{
+    match o {
+        Operation::Reset { size, v1p1 } => State::after_reset(size, v1p1),
+        Operation::Branch {
+            kind: _,
+            mispredicted: _,
+            source: _,
+            target: _,
+        } => s,
+        Operation::Exception {
+            kind: _,
+            target_level,
+            source: _,
+            target: _,
+        } => s.at_level(target_level),
+        Operation::Return {
+            target_level,
+            mispredicted: _,
+            source: _,
+            target: _,
+        } => s.at_level(target_level),
+        Operation::Platform { p } => s.with_platform(p),
+        Operation::Read { register: _ } => s,
+        Operation::Write { register, value } => written(s, register, value),
+        Operation::Iall => s,
+        Operation::Unknown => s,
+    }
+}
+
+// The running count with an operation's cycles: it stops at the cap. No sum can wrap.
+fn capped(count: u64, cycles: u64) -> u64
+    ensures { λ r. ⌜ r ≡ min (count + cycles) cap ⌝ }
+{
+    if CAP <= count {
+        return CAP;
+    }
+    if CAP - count <= cycles {
+        return CAP;
+    }
+    count + cycles
+}
+
+// An operation on which the next count becomes unknown; `after` is the state that it has changed.
+fn occasion(s: State, after: State) -> bool
+    ensures { λ r. ⌜ r ≡ occasion s after ⌝ }
+{
+    let hidden = prohibited(s, s.level);
+    let counting = s.counting();
+    let counts = after.counting();
+    let paused = s.paused();
+    let pauses = after.paused();
+    hidden | !counting & counts | paused & !pauses
+}
+
+// The running count once the operation has passed.
+pub fn passed(s: State, after: State, cycles: u64) -> Running
+    ensures { λ r. ⌜ r ≡ passed s after cycles ⌝ }
+{
+    let r = s.running;
+    Running {
+        count: capped(r.count, cycles),
+        unknown: pick(occasion(s, after), 1, r.unknown),
+    }
+}
+
+fn branch_effect(
+    s: State,
+    r: Running,
+    kind: u64,
+    mispredicted: u64,
+    source: u64,
+    target: u64,
+) -> Effect
+    ensures { λ x. ⌜ x ≡ effectOf s (Operation.Branch kind mispredicted source target) r ⌝ }
+{
+    let t = BranchType { code: kind };
+    let e = Event {
+        kind,
+        mispredicted,
+        left: s.level,
+        entered: s.level,
+        source,
+        target,
+    };
+    made(s, r, t.chosen(s.brbfcr), e)
+}
+
+// An exception is controlled by the level that it enters.
+fn exception_effect(s: State, r: Running, kind: u64, level: u64, source: u64, target: u64) -> Effect
+    ensures { λ x. ⌜ x ≡ effectOf s (Operation.Exception kind level source target) r ⌝ }
+{
+    let e = Event {
+        kind,
+        mispredicted: 0,
+        left: s.level,
+        entered: level,
+        source,
+        target,
+    };
+    let wanted = controlled(
+        s,
+        level,
+        s.brbcr1 / EXCEPTION % 2 == 1,
+        s.brbcr2 / EXCEPTION % 2 == 1,
+    );
+    made(s, r, wanted, e)
+}
+
+// A return is controlled by the level that it leaves.
+fn return_effect(
+    s: State,
+    r: Running,
+    level: u64,
+    mispredicted: u64,
+    source: u64,
+    target: u64,
+) -> Effect
+    ensures { λ x. ⌜ x ≡ effectOf s (Operation.Return level mispredicted source target) r ⌝ }
+{
+    let e = Event {
+        kind: RETURN,
+        mispredicted,
+        left: s.level,
+        entered: level,
+        source,
+        target,
+    };
+    let wanted = controlled(
+        s,
+        s.level,
+        s.brbcr1 / ERTN % 2 == 1,
+        s.brbcr2 / ERTN % 2 == 1,
+    );
+    made(s, r, wanted, e)
+}
+
+// BRB IALL clears the records where it is performed.
+fn iall_effect(s: State) -> Effect
+    ensures { λ x. ⌜ x ≡ cond (isPerformed (iallOutcome s)) Effect.Clear Effect.Keep ⌝ }
+{
+    if is_performed(iall_outcome(s)) {
+        Effect::Clear
+    } else {
+        Effect::Keep
+    }
+}
+
+// What an operation does to the records, where the running count is r with its cycles in it.
+pub fn effect_of(s: State, o: Operation, r: Running) -> Effect
+    ensures { λ x. ⌜ x ≡ effectOf s o r ⌝ }
+{
+    match o {
+        Operation::Reset { size, v1p1: _ } => Effect::Start(size),
+        Operation::Branch {
+            kind,
+            mispredicted,
+            source,
+            target,
+        } => { branch_effect(s, r, kind, mispredicted, source, target) }
+        Operation::Exception {
+            kind,
+            target_level,
+            source,
+            target,
+        } => { exception_effect(s, r, kind, target_level, source, target) }
+        Operation::Return {
+            target_level,
+            mispredicted,
+            source,
+            target,
+        } => { return_effect(s, r, target_level, mispredicted, source, target) }
+        Operation::Platform { p: _ } => Effect::Keep,
+        Operation::Read { register: _ } => Effect::Keep,
+        Operation::Write {
+            register: _,
+            value: _,
+        } => Effect::Keep,
+        Operation::Iall => iall_effect(s),
+        Operation::Unknown => Effect::Keep,
+    }
+}
+
+pub fn running_after(effect: Effect, r: Running) -> Running
+    ensures { λ x. ⌜ x ≡ runningAfter effect r ⌝ }
+{
+    match effect {
+        Effect::Keep => r,
+        Effect::Push(_) => Running {
+            count: 0,
+            unknown: 0,
+        },
+        Effect::Clear => r,
+        Effect::Start(_) => Running {
+            count: 0,
+            unknown: 1,
+        },
+    }
+}

@@ -1,0 +1,20 @@
+-- An accepted operation, as defined: what each callee decides is put in, and the room is what `apply` leaves.
+use borrow.Author.Needs.{needs}
+use Rattle.recorder.specs.Step.{acceptedWith, accepted}
+use Rattle.recorder.proofs.accept.Statement.{statement}
+use Rattle.recorder.proofs.accept.Tie as tie
+
+pub accept-spec : {M : Type 1} → statement M
+unfolding acceptedWith accepted
+accept-spec =
+    tie.close
+    (tie.spec
+    (λ _ _. tt)
+    (λ _ _. tt)
+    (λ _ _. tt)
+    (λ _ _. tt)
+    (λ _ _. tt)
+    (λ _ _. tt)
+    (λ _ _. tt)
+    (λ c. search needs)
+    (λ c. cc))
