@@ -1,9 +1,9 @@
 -- Document 01, "Access outcomes", last paragraph: "a bank view holds a reference to the lent records and shows that bank's
 -- part and no other."
-use Prim.Native.Nat.{ℕ, zero, suc, _+_, _*_}
+use Prim.Native.Nat.{ℕ, _+_, _*_}
 use mathlib.Core.Bool.{cond, _||_, not}
 use mathlib.Core.List.{List}
-use lib.Dec.{ltb}
+use lib.Dec.{eqb, ltb}
 use lib.ListN.{length}
 use Rattle.bits.specs.Bits.{oneOf}
 use Rattle.state.specs.Named.{sizes}
@@ -24,4 +24,5 @@ bankRecord size bank m room = numbered (m + 32 * bank) (records size room)
 -- One register of it: `register` is the record's BRBINF, BRBSRC or BRBTGT.
 unfoldable pub bankShows : (Record → ℕ) → ℕ → ℕ → ℕ → List ℕ → Shown
 bankShows register size bank m room =
-    elim (bankRefusal size bank m room) [ zero ↦ Value (register (bankRecord size bank m room)) | suc n ↦ Refused (suc n) ]
+    cond (eqb (bankRefusal size bank m room) 0) (Value (register (bankRecord size bank m room)))
+    (Refused (bankRefusal size bank m room))

@@ -2,8 +2,9 @@
 use Prim.Native.Nat.{ℕ, zero, suc, _+_}
 use mathlib.Core.Bool.{cond}
 use mathlib.Core.List.{List, [], _∷_, _++_}
-use lib.Dec.{ltb}
+use lib.Dec.{ltb, eqb}
 use lib.ListN.{length, getD, take}
+use Rattle.number.specs.declared.Found.{Found}
 use Rattle.number.specs.declared.Found.the-variants.{Value, Malformed, Ended}
 use Rattle.number.specs.Number.{numberAt, bytesOf, written}
 use Rattle.recording.specs.declared.Numbers.{Numbers}
@@ -25,10 +26,15 @@ abbrev pub inFront : ℕ → Several → Several
 inFront n (got list next) = got (n ∷ list) next
 inFront n (bad place) = bad place
 
+-- A number that was read in front of the rest, which is read after it.
+abbrev pub thenRead : (ℕ → Several) → ℕ → Found → Several
+thenRead rest at (Value n next) = inFront n (rest next)
+thenRead rest at Malformed = bad at
+thenRead rest at Ended = bad at
+
 unfoldable pub numbersAt : ℕ → List ℕ → ℕ → Several
 numbersAt zero bytes at = got [] at
-numbersAt (suc k) bytes at =
-    elim (numberAt bytes at) [ Value n next ↦ inFront n (numbersAt k bytes next) | Malformed ↦ bad at | Ended ↦ bad at ]
+numbersAt (suc k) bytes at = thenRead (numbersAt k bytes) at (numberAt bytes at)
 
 -- Cycles and fields of an operation whose code was read: "a reader gives 0" for numbers beyond its own fields.
 abbrev pub withFields : ℕ → Several → Reading
@@ -40,13 +46,14 @@ withFields code (bad place) = Reading.Malformed place
 
 -- "then the code is read (1, then 2), then all fields (1)"; cycles are read with the fields. "input ending inside an
 -- operation is 1"
+abbrev pub afterCode : List ℕ → ℕ → Found → Reading
+afterCode bytes at (Value code next) =
+    cond (ltb 7 code) (UnknownCode at) (withFields code (numbersAt (1 + fieldCount code) bytes next))
+afterCode bytes at Malformed = Reading.Malformed at
+afterCode bytes at Ended = Reading.Malformed at
+
 unfoldable pub operationAt : List ℕ → ℕ → Reading
-operationAt bytes at =
-    elim (numberAt bytes at) [
-      | Value code next ↦ cond (ltb 7 code) (UnknownCode at) (withFields code (numbersAt (1 + fieldCount code) bytes next))
-      | Malformed ↦ Reading.Malformed at
-      | Ended ↦ Reading.Malformed at
-    ]
+operationAt bytes at = afterCode bytes at (numberAt bytes at)
 
 -- The bytes of several numbers, end to end.
 unfoldable pub bytesOfAll : List ℕ → List ℕ
@@ -65,10 +72,11 @@ writeRefusal x at out =
 
 -- The lent bytes after the writer: on refusal nothing is written.
 unfoldable pub writtenOperation : Numbers → ℕ → List ℕ → List ℕ
-writtenOperation x at out = elim (writeRefusal x at out) [ zero ↦ written out at (operationBytes x) | suc n ↦ out ]
+writtenOperation x at out = cond (eqb (writeRefusal x at out) 0) (written out at (operationBytes x)) out
 
 unfoldable pub writingOf : Numbers → ℕ → List ℕ → Writing
-writingOf x at out = elim (writeRefusal x at out) [ zero ↦ Wrote (length (operationBytes x)) | suc n ↦ Refused (suc n) ]
+writingOf x at out =
+    cond (eqb (writeRefusal x at out) 0) (Wrote (length (operationBytes x))) (Refused (writeRefusal x at out))
 
 -- The answer as document 01's numbers: the refusal, or 0 and the bytes written.
 abbrev pub numberOfWriting : Writing → ℕ

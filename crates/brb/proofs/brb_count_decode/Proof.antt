@@ -1,0 +1,13 @@
+-- What a CC field says, as document 01's numbers.
+use borrow.Author.Needs.{needs}
+use Rattle.brb.proofs.brb_count_decode.Statement.{statement}
+use Rattle.brb.proofs.brb_count_decode.Tie as tie
+
+pub brb-count-decode-spec : {M : Type 1} → statement M
+brb-count-decode-spec =
+    tie.close
+    (tie.spec
+    (λ _ _. tt)
+    (λ _ _. tt)
+    (λ _ _. tt)
+    (λ c. cc))
