@@ -3,8 +3,13 @@ use Prim.Native.Nat.{ℕ, _<_, _≤_}
 use mathlib.Core.Path.{_≡_, refl}
 use mathlib.Core.Bool.{Bool, true, false}
 use mathlib.Core.Logic.{_⊎_, inl, inr}
+use native.Mathlib.Omega.{arith}
 use borrow.Author.Tests.{ltb-true, ltb-false}
 use lib.Dec.{ltb}
+
+-- What follows from 0 being 1: anything. `never (cc)` closes a clash of constructors.
+pub never {ℓ} : {A : Type ℓ} → _≡_ {A = ℕ} 0 1 → A
+never e = absurd (omega arith)
 
 -- A test holds or it does not.
 pub either : (t : Bool) → (t ≡ true) ⊎ (t ≡ false)

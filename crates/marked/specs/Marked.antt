@@ -6,7 +6,6 @@ use mathlib.Core.List.{List, [], _∷_, _++_, map}
 use Rattle.count.specs.declared.Decoded.{Decoded}
 use Rattle.count.specs.declared.Decoded.the-variants.{Known}
 use Rattle.recording.specs.declared.Numbers.{Numbers}
-
 use Rattle.filter.specs.Filter.{branchTypes, filterBit, chosen}
 use Rattle.line.specs.Line.{bytesOfText, hexDigits, decimalIn, decimal, lineOf, replayFrom, replayOf}
 use Rattle.count.specs.Count.{bitLength, exponent, mantissa, encoded, countOf, decoded}

@@ -68,14 +68,17 @@ abbrev pub firstThat : List (ℕ × Bool) → ℕ
 firstThat [] = 0
 firstThat (line ∷ lines) = cond (line .1) (line .0) (firstThat lines)
 
--- The table, in its order. 0: the operation is accepted. `room` is the lent room's length.
-unfoldable pub refusalOf : State → Operation → ℕ → ℕ
-refusalOf s o room =
-    firstThat
-    ((7, not (sound s))
+-- The table, in its order: each line's number and condition. `room` is the lent room's length.
+abbrev pub table : State → Operation → ℕ → List (ℕ × Bool)
+table s o room =
+    (7, not (sound s))
     ∷ (2, unknownCode o)
     ∷ (3, notReset s o)
     ∷ (4, outsideList o)
     ∷ (5, notPermitted s o)
     ∷ (6, roomTooShort s o room)
-    ∷ [])
+    ∷ []
+
+-- The refusal of an operation; 0: it is accepted.
+unfoldable pub refusalOf : State → Operation → ℕ → ℕ
+refusalOf s o room = firstThat (table s o room)

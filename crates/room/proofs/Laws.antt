@@ -13,7 +13,7 @@ use borrow.Author.Tests.{le-leb, le-ltb, lt-ltb, leb-true}
 use Rattle.room.specs.declared.Record.{Record}
 use Rattle.room.specs.declared.Effect.{Effect}
 use Rattle.room.specs.declared.Effect.the-variants.{Keep, Push, Clear, Start}
-use Rattle.room.specs.Room.{zeroRecord, newest, records, numbered, needed, pushed, cleared, roomAfter, sizeAfter, placed}
+use Rattle.room.specs.Room.{zeroRecord, newest, records, numbered, needed, pushed, cleared, roomAfter, sizeAfterEffect, placed}
 
 three : (n : ℕ) → needed (suc n) ≡ suc (suc (suc (needed n)))
 three n = omega arith
@@ -101,7 +101,7 @@ kept-cleared size room =
     kept (needed size) (replicate (needed size) 0) room (leb (needed size) (length room))
     (λ e. (length-replicate (needed size) 0, leb-true (needed size) (length room) e))
 
-kept-after : (size : ℕ) (e : Effect) (room : List ℕ) → Kept (needed (sizeAfter size e)) room (roomAfter size e room)
+kept-after : (size : ℕ) (e : Effect) (room : List ℕ) → Kept (needed (sizeAfterEffect size e)) room (roomAfter size e room)
 unfolding roomAfter
 kept-after size Keep room = (refl, refl)
 kept-after size (Push r) room = kept-pushed size r room
@@ -113,7 +113,7 @@ length-roomAfter size e room = kept-after size e room .0
 
 -- "Numbers past the needed room are never written."
 pub past : (size : ℕ) (e : Effect) (room : List ℕ)
-    → drop (needed (sizeAfter size e)) (roomAfter size e room) ≡ drop (needed (sizeAfter size e)) room
+    → drop (needed (sizeAfterEffect size e)) (roomAfter size e room) ≡ drop (needed (sizeAfterEffect size e)) room
 past size e room = kept-after size e room .1
 
 -- A case in which the oldest record is lost and a number stands past the needed room.

@@ -49,11 +49,11 @@ roomAfter size Clear room = cleared size room
 roomAfter size (Start n) room = cleared n room
 
 -- The size after an effect: a reset brings its own.
-abbrev pub sizeAfter : ℕ → Effect → ℕ
-sizeAfter size Keep = size
-sizeAfter size (Push r) = size
-sizeAfter size Clear = size
-sizeAfter size (Start n) = n
+abbrev pub sizeAfterEffect : ℕ → Effect → ℕ
+sizeAfterEffect size Keep = size
+sizeAfterEffect size (Push r) = size
+sizeAfterEffect size Clear = size
+sizeAfterEffect size (Start n) = n
 
 -- The record whose numbers stand at place 3r of a room.
 abbrev pub placed : ℕ → List ℕ → Record

@@ -1,5 +1,4 @@
 -- What a read answers, as defined.
-use borrow.Author.Needs.{needs}
 use Rattle.recorder.specs.Step.{answerOf}
 use Rattle.recorder.proofs.read_answer.Statement.{statement}
 use Rattle.recorder.proofs.read_answer.Tie as tie

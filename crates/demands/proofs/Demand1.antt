@@ -1,0 +1,115 @@
+-- Demand 1. "Bad input is refused by the outline's numbers, in its order. A refused operation changes no state and no lent
+-- number."
+use Prim.Native.Nat.{ℕ, _≤_}
+use mathlib.Core.Path.{_≡_, refl}
+use mathlib.Core.Bool.{Bool, true, false, _&&_}
+use mathlib.Core.List.{List, [], _∷_}
+use native.Mathlib.Omega.{arith}
+use native.Mathlib.Decide.{ℕ-discrete}
+use lib.Dec.{leb}
+use lib.ListN.{length}
+use Rattle.bits.proofs.Cases.{never}
+use Rattle.state.specs.declared.State.{State}
+use Rattle.state.specs.declared.Loaded.{Loaded}
+use Rattle.state.specs.declared.Loaded.the-variants.{Held, Unsound}
+use Rattle.state.specs.Sound.{sound}
+use Rattle.state.specs.Words.{stateNumbers, stateOf, loaded}
+use Rattle.state.proofs.Laws.{stored-loaded}
+use Rattle.access.specs.declared.Outcome.{Outcome}
+use Rattle.access.specs.declared.Outcome.the-variants.{Performed, Undefined, Trap2, Trap3}
+use Rattle.access.specs.Access.{readOutcome, writeOutcome, iallOutcome}
+use Rattle.operation.specs.declared.Operation.{Operation}
+use Rattle.operation.specs.declared.Operation.the-variants.{Reset, Branch, Exception, Return, Platform, Read, Write, Iall, Unknown}
+use Rattle.operation.specs.Operation.{operationOf}
+use Rattle.operation.specs.Refusal.{firstThat, table, refusalOf}
+use Rattle.recorder.specs.declared.Answer.{Answer}
+use Rattle.recorder.specs.Step.{numberOf, answered, answerOf, accepted, acceptedWith, refused, stepOf}
+use Rattle.recorder.proofs.Laws.{accepted-step, refused-step}
+use Rattle.recorder.specs.Lent.{lentStep}
+use Rattle.brb.specs.Face.{leaves, stepLeaves}
+use Rattle.demands.specs.First.{First, here, later, none}
+
+-- ---- refusal-exact: the number is that of the first line of the table whose condition holds, and 0 if none does
+
+first : (lines : List (ℕ × Bool)) → First lines (firstThat lines)
+first [] = none
+first (line ∷ lines) = go (line .0) (line .1) (first lines)
+  where
+    go : (n : ℕ) (t : Bool) → First lines (firstThat lines) → First ((n, t) ∷ lines) (firstThat ((n, t) ∷ lines))
+    go n true rest = here
+    go n false rest = later rest
+
+pub refusal-exact : (s : State) (o : Operation) (room : ℕ) → First (table s o room) (refusalOf s o room)
+unfolding refusalOf
+refusal-exact s o room = first (table s o room)
+
+-- ---- refused-changes-nothing
+
+-- What an accepted operation answers is no refusal: 0, 100, 102 or 103.
+data Accepted : ℕ → Type 0 where
+  done : Accepted 0
+  undefined : Accepted 100
+  trap2 : Accepted 102
+  trap3 : Accepted 103
+
+ended : (o : Outcome) (a : Answer) → Accepted (numberOf a) → Accepted (numberOf (answered o a))
+ended Performed a h = h
+ended Undefined a h = undefined
+ended Trap2 a h = trap2
+ended Trap3 a h = trap3
+
+accepted-number : (s : State) (o : Operation) (room : List ℕ) → Accepted (numberOf (answerOf s o room))
+unfolding answerOf
+accepted-number s (Reset size v1p1) room = done
+accepted-number s (Branch kind m source target) room = done
+accepted-number s (Exception kind level source target) room = done
+accepted-number s (Return level m source target) room = done
+accepted-number s (Platform p) room = done
+accepted-number s (Read r) room = ended (readOutcome s r) _ done
+accepted-number s (Write r value) room = ended (writeOutcome s r) _ done
+accepted-number s Iall room = ended (iallOutcome s) _ done
+accepted-number s Unknown room = done
+
+no-refusal : {n : ℕ} → Accepted n → 1 ≤ n → n ≤ 7 → ⊥
+no-refusal done l u = omega arith
+no-refusal undefined l u = omega arith
+no-refusal trap2 l u = omega arith
+no-refusal trap3 l u = omega arith
+
+-- A step whose answer's number is a refusal's is the refusal: state and room are as they were.
+pub refusal-answered : (s : State) (o : Operation) (cycles : ℕ) (room : List ℕ) → 1 ≤ numberOf (stepOf s o cycles room .answer)
+    → numberOf (stepOf s o cycles room .answer) ≤ 7 → stepOf s o cycles room ≡ refused (refusalOf s o (length room)) s room
+unfolding accepted acceptedWith
+refusal-answered s o cycles room l u = go (ℕ-discrete (refusalOf s o (length room)) 0)
+  where
+    go : Dec (refusalOf s o (length room) ≡ 0) → stepOf s o cycles room ≡ refused (refusalOf s o (length room)) s room
+    go (yes h) =
+        let e = accepted-step s o cycles room h in
+        absurd (no-refusal (accepted-number s o room) (rw e at l) (rw e at u))
+    go (no h) = refused-step s o cycles room h
+
+-- A state that was loaded is the one that the lent numbers hold.
+held : (words : List ℕ) (s : State) → loaded words ≡ Held s → s ≡ stateOf words
+unfolding loaded
+held words s e = go (leb stateNumbers (length words) && sound (stateOf words)) refl
+  where
+    go : (t : Bool) → (leb stateNumbers (length words) && sound (stateOf words)) ≡ t → s ≡ stateOf words
+    go true h = cc (rw h at e)
+    go false h = never (cc (rw h at e))
+
+-- `refused-changes-nothing`: whatever is lent and handed in, if the number is 1 to 7, then every state number and every room
+-- number is as it was, and the value is 0.
+pub refused-changes-nothing : (words room : List ℕ) (code cycles a b c d : ℕ)
+    → 1 ≤ stepLeaves words code cycles a b c d room .answer .number
+    → stepLeaves words code cycles a b c d room .answer .number ≤ 7
+    → stepLeaves words code cycles a b c d room
+    ≡ leaves (record { number = stepLeaves words code cycles a b c d room .answer .number; value = 0 }) words room
+unfolding stepLeaves lentStep
+refused-changes-nothing words room code cycles a b c d l u = go (loaded words) refl
+  where
+    go : (found : Loaded) → loaded words ≡ found
+        → stepLeaves words code cycles a b c d room
+        ≡ leaves (record { number = stepLeaves words code cycles a b c d room .answer .number; value = 0 }) words room
+    go Unsound e = rw e
+    go (Held s) e =
+        rw (e, refusal-answered s (operationOf code a b c d) cycles room (rw e at l) (rw e at u), held words s e, stored-loaded words)

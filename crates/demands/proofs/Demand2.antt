@@ -1,0 +1,234 @@
+-- Demand 2, on one operation: what an accepted operation does to the list of records, what a new record holds, and what a
+-- read shows.
+use Prim.Native.Nat.{ℕ, zero, suc, _+_, _*_, _^_, _/_, _%_, _≤_, _<_}
+use mathlib.Core.Path.{_≡_, refl, _∙_}
+use mathlib.Core.Bool.{Bool, true, false, cond, _&&_, not}
+use mathlib.Core.List.{List}
+use native.Mathlib.Omega.{arith}
+use native.Mathlib.Decide.{ℕ-discrete}
+use borrow.Author.Tests.{ne-eqb}
+use lib.Dec.{eqb}
+use lib.ListN.{length, List·getD-eq-default}
+use Rattle.bits.specs.Bits.{part}
+use Rattle.bits.proofs.Cases.{never}
+use Rattle.count.specs.Count.{encoded}
+use Rattle.state.specs.declared.State.{State}
+use Rattle.state.specs.declared.Running.{Running}
+use Rattle.state.specs.Named.{PAUSED, predictionShown, BANK}
+use Rattle.room.specs.declared.Record.{Record}
+use Rattle.room.specs.declared.Effect.{Effect}
+use Rattle.room.specs.declared.Effect.the-variants.{Keep, Push, Clear, Start}
+use Rattle.room.specs.Room.{zeroRecord, records, numbered, needed, roomAfter, sizeAfterEffect}
+use Rattle.room.proofs.Laws.{length-records, records-pushed, records-cleared}
+use Rattle.region.specs.Region.{prohibited}
+use Rattle.event.specs.declared.Event.{Event}
+use Rattle.event.specs.Event.{valid, countUnknown, MPRED, packed, BRBINF, recordOf, made}
+use Rattle.access.specs.Access.{isPerformed, iallOutcome, shownRecord, shownNumber, registerValue}
+use Rattle.operation.specs.declared.Operation.{Operation}
+use Rattle.operation.specs.declared.Operation.the-variants.{Reset, Branch, Exception, Return, Platform, Read, Write, Iall, Unknown}
+use Rattle.operation.specs.Refusal.{notReset, sizeAfter, refusalOf}
+use Rattle.operation.proofs.Laws.{accepts}
+use Rattle.change.specs.Change.{changed, passed, effectOf}
+use Rattle.recorder.specs.Step.{accepted, acceptedWith, stepOf}
+use Rattle.recorder.proofs.Laws.{accepted-step, refused-step}
+use Rattle.demands.specs.After.{recordsAfter, IsEvent, branch, exception, return, entered}
+
+-- ---- inside-prohibited: an event wholly inside a prohibited region changes no record
+
+never-wanted : {A : Type 0} (t : Bool) (new other : A) → cond (t && false) new other ≡ other
+never-wanted true new other = refl
+never-wanted false new other = refl
+
+made-none : (s : State) (r : Running) (wanted : Bool) (e : Event) → prohibited s (e .left) ≡ true → prohibited s (e .entered) ≡ true
+    → made s r wanted e ≡ Keep
+unfolding made valid
+made-none s r wanted e source target = rw (source, target) (never-wanted (wanted && not (PAUSED s)) _ _)
+
+effect-inside : (s : State) {o : Operation} (r : Running) (e : IsEvent o) → prohibited s (s .level) ≡ true
+    → prohibited s (entered s e) ≡ true → effectOf s o r ≡ Keep
+unfolding effectOf
+effect-inside s r branch source target = made-none s r _ _ source target
+effect-inside s r exception source target = made-none s r _ _ source target
+effect-inside s r return source target = made-none s r _ _ source target
+
+pub inside-prohibited : (s : State) {o : Operation} (cycles : ℕ) (room : List ℕ) (e : IsEvent o) → prohibited s (s .level) ≡ true
+    → prohibited s (entered s e) ≡ true → stepOf s o cycles room .room ≡ room
+unfolding accepted acceptedWith roomAfter
+inside-prohibited s {o} cycles room e source target = go (ℕ-discrete (refusalOf s o (length room)) 0)
+  where
+    go : Dec (refusalOf s o (length room) ≡ 0) → stepOf s o cycles room .room ≡ room
+    go (yes h) = rw (accepted-step s o cycles room h, effect-inside s (passed s (changed s o) cycles) e source target)
+    go (no h) = rw (refused-step s o cycles room h)
+
+-- ---- hidden-address-zero: a record holds 0 where the address of its prohibited side would stand
+
+-- What BRBINF's fields read as.
+pub record Fields (ccu cc kind level mpred valid inf : ℕ) : Type 0 where
+  pub CCU : part 46 46 inf ≡ ccu % 2
+  pub CC : part 45 32 inf ≡ cc % 2 ^ 14
+  pub TYPE : part 13 8 inf ≡ kind % 2 ^ 6
+  pub EL : part 7 6 inf ≡ level % 2 ^ 2
+  pub MISPREDICTED : part 5 5 inf ≡ mpred % 2
+  pub VALID : part 1 0 inf ≡ valid % 2 ^ 2
+
+pub fields : (ccu cc kind level mpred valid : ℕ) → Fields ccu cc kind level mpred valid (packed ccu cc kind level mpred valid)
+fields ccu cc kind level mpred valid =
+    record {
+      CCU = omega arith;
+      CC = omega arith;
+      TYPE = omega arith;
+      EL = omega arith;
+      MISPREDICTED = omega arith;
+      VALID = omega arith;
+    }
+
+-- A record that was made is the one defined.
+made-record : (s : State) (r : Running) (wanted : Bool) (e : Event) (new : Record) → made s r wanted e ≡ Push new → new ≡ recordOf s r e
+unfolding made
+made-record s r wanted e new h = go (wanted && not (PAUSED s) && not (eqb (valid s e) 0)) h
+  where
+    go : (t : Bool) → cond t (Push (recordOf s r e)) Keep ≡ Push new → new ≡ recordOf s r e
+    go true p = cc
+    go false p = never (cc)
+
+-- What is hidden of a record whose source or target side is prohibited: address, prediction, level.
+pub record Hidden (s : State) (left entered : ℕ) (new : Record) : Type 0 where
+  pub source : prohibited s left ≡ true → new .source ≡ 0
+  pub prediction : prohibited s left ≡ true → part 5 5 (new .inf) ≡ 0
+  pub target : prohibited s entered ≡ true → new .target ≡ 0
+  pub level : prohibited s entered ≡ true → part 7 6 (new .inf) ≡ 0
+
+hidden-prediction : (s : State) (e : Event) → prohibited s (e .left) ≡ true → MPRED s e ≡ 0
+unfolding MPRED
+hidden-prediction s e h = rw h (never-wanted (predictionShown s) (e .mispredicted) 0)
+
+-- BRBINF's fields, of a record that was made.
+pub record-fields : (s : State) (r : Running) (e : Event)
+    → Fields (cond (countUnknown s r) 1 0) (cond (countUnknown s r) 0 (encoded (r .count))) (e .kind)
+    (cond (prohibited s (e .entered)) 0 (e .entered))
+    (MPRED s e)
+    (valid s e)
+    (recordOf s r e .inf)
+unfolding recordOf BRBINF
+record-fields s r e = fields _ _ _ _ _ _
+
+record-hidden : (s : State) (r : Running) (e : Event) → Hidden s (e .left) (e .entered) (recordOf s r e)
+unfolding recordOf
+record-hidden s r e =
+    record {
+      source = λ h. rw h;
+      prediction = λ h. record-fields s r e .MISPREDICTED ∙ rw (hidden-prediction s e h);
+      target = λ h. rw h;
+      level = λ h. record-fields s r e .EL ∙ rw h;
+    }
+
+-- Only an event makes a record, and that record hides what is prohibited.
+pub hidden-address-zero : (s : State) {o : Operation} (r : Running) (e : IsEvent o) (new : Record) → effectOf s o r ≡ Push new
+    → Hidden s (s .level) (entered s e) new
+unfolding effectOf
+hidden-address-zero s r branch new h = rw (made-record s r _ _ new h) (record-hidden s r _)
+hidden-address-zero s r exception new h = rw (made-record s r _ _ new h) (record-hidden s r _)
+hidden-address-zero s r return new h = rw (made-record s r _ _ new h) (record-hidden s r _)
+
+-- ---- newest: what an accepted operation does to the list of records
+
+-- The size that refusal 6 judges by is the size after the effect.
+keeps-size : (size : ℕ) (s : State) (r : Running) (wanted : Bool) (e : Event) → size ≡ sizeAfterEffect size (made s r wanted e)
+unfolding made
+keeps-size size s r wanted e = go (wanted && not (PAUSED s) && not (eqb (valid s e) 0))
+  where
+    go : (t : Bool) → size ≡ sizeAfterEffect size (cond t (Push (recordOf s r e)) Keep)
+    go true = refl
+    go false = refl
+
+cleared-or-kept : (size : ℕ) (t : Bool) → size ≡ sizeAfterEffect size (cond t Clear Keep)
+cleared-or-kept size true = refl
+cleared-or-kept size false = refl
+
+pub size-after : (s : State) (o : Operation) (r : Running) → sizeAfter s o ≡ sizeAfterEffect (s .size) (effectOf s o r)
+unfolding effectOf
+size-after s (Reset size v1p1) r = refl
+size-after s (Branch kind m source target) r = keeps-size (s .size) s r _ _
+size-after s (Exception kind level source target) r = keeps-size (s .size) s r _ _
+size-after s (Return level m source target) r = keeps-size (s .size) s r _ _
+size-after s (Platform p) r = refl
+size-after s (Read register) r = refl
+size-after s (Write register value) r = refl
+size-after s Iall r = cleared-or-kept (s .size) (isPerformed (iallOutcome s))
+size-after s Unknown r = refl
+
+-- Only an event makes a record, and it needs a reset before it.
+pub pushed-by : (s : State) (o : Operation) (r : Running) (new : Record) → effectOf s o r ≡ Push new → IsEvent o
+unfolding effectOf
+pushed-by s (Reset size v1p1) r new h = never (cc)
+pushed-by s (Branch kind m source target) r new h = branch
+pushed-by s (Exception kind level source target) r new h = exception
+pushed-by s (Return level m source target) r new h = return
+pushed-by s (Platform p) r new h = never (cc)
+pushed-by s (Read register) r new h = never (cc)
+pushed-by s (Write register value) r new h = never (cc)
+pushed-by s Iall r new h = go (isPerformed (iallOutcome s)) h
+  where
+    go : (t : Bool) → cond t Clear Keep ≡ Push new → IsEvent Iall
+    go true p = never (cc)
+    go false p = never (cc)
+pushed-by s Unknown r new h = never (cc)
+
+sized : (size : ℕ) → (eqb size 0 && true) ≡ false → 1 ≤ size
+sized zero h = never (cc)
+sized (suc size) h = omega arith
+
+event-sized : (s : State) {o : Operation} → IsEvent o → notReset s o ≡ false → 1 ≤ s .size
+unfolding notReset
+event-sized s branch h = sized (s .size) h
+event-sized s exception h = sized (s .size) h
+event-sized s return h = sized (s .size) h
+
+effect-records : (size : ℕ) (e : Effect) (room : List ℕ) → ((new : Record) → e ≡ Push new → 1 ≤ size)
+    → needed (sizeAfterEffect size e) ≤ length room
+    → records (sizeAfterEffect size e) (roomAfter size e room) ≡ recordsAfter size e (records size room)
+unfolding roomAfter recordsAfter
+effect-records size Keep room one enough = refl
+effect-records size (Push new) room one enough = records-pushed size new room (one new refl) enough
+effect-records size Clear room one enough = records-cleared size room enough
+effect-records size (Start n) room one enough = records-cleared n room enough
+
+-- After an accepted operation the records are exactly those that its effect makes of the records before it: the new record in
+-- front and the oldest lost, or the list unchanged, or all zero. Which of them, and every field of the new record, is
+-- decided by the definition `effectOf`, at the running count that the operations have brought.
+pub newest : (s : State) (o : Operation) (cycles : ℕ) (room : List ℕ) → refusalOf s o (length room) ≡ 0
+    → records (sizeAfter s o) (stepOf s o cycles room .room)
+    ≡ recordsAfter (s .size) (effectOf s o (passed s (changed s o) cycles)) (records (s .size) room)
+unfolding accepted acceptedWith
+newest s o cycles room h =
+    let a = accepts s o (length room) h in
+    let r = passed s (changed s o) cycles in
+    let size = size-after s o r in
+    rw (accepted-step s o cycles room h, size)
+    (effect-records (s .size) (effectOf s o r) room (λ new p. event-sized s (pushed-by s o r new p) (a .was-reset)) (rw size at (a .room-enough)))
+
+-- ---- read-shows: what a record register shows is number m + 32 × BANK of the list
+
+record-register : (s : State) (list : List Record) (r : ℕ) → 32 ≤ r → registerValue s list r ≡ shownNumber s list r
+unfolding registerValue
+record-register s list r h =
+    rw (ne-eqb r 0 (omega arith), ne-eqb r 1 (omega arith), ne-eqb r 2 (omega arith), ne-eqb r 3 (omega arith))
+
+pub read-shows : (s : State) (list : List Record) (m : ℕ) → m < 32
+    → (registerValue s list (32 + m) ≡ numbered (m + 32 * BANK s) list .inf)
+    × (registerValue s list (64 + m) ≡ numbered (m + 32 * BANK s) list .source)
+    × (registerValue s list (96 + m) ≡ numbered (m + 32 * BANK s) list .target)
+unfolding shownNumber shownRecord
+read-shows s list m h =
+    let low : (k : ℕ) → (32 * k + m) % 32 ≡ m = λ k. omega arith in
+    let high : (k : ℕ) → (32 * k + m) / 32 ≡ k = λ k. omega arith in (
+      rw (record-register s list (32 + m) (omega arith), low 1, high 1),
+      rw (record-register s list (64 + m) (omega arith), low 2, high 2),
+      rw (record-register s list (96 + m) (omega arith), low 3, high 3),
+    )
+
+-- ... and past the size it shows 0.
+pub read-past : (s : State) (size m : ℕ) (room : List ℕ) → size ≤ m + 32 * BANK s
+    → numbered (m + 32 * BANK s) (records size room) ≡ zeroRecord
+unfolding numbered
+read-past s size m room h = List·getD-eq-default (records size room) zeroRecord (rw (length-records size room) h)

@@ -1,0 +1,31 @@
+-- The list of records after an effect, and what is meant by an event's two sides.
+use Prim.Native.Nat.{ℕ, _-_}
+use mathlib.Core.List.{List, _∷_}
+use lib.ListN.{take, replicate}
+use Rattle.state.specs.declared.State.{State}
+use Rattle.room.specs.declared.Record.{Record}
+use Rattle.room.specs.declared.Effect.{Effect}
+use Rattle.room.specs.declared.Effect.the-variants.{Keep, Push, Clear, Start}
+use Rattle.room.specs.Room.{zeroRecord}
+use Rattle.operation.specs.declared.Operation.{Operation}
+use Rattle.operation.specs.declared.Operation.the-variants.{Branch, Exception, Return}
+
+-- "A new record becomes number 0, the others move up one, the oldest of a full buffer is lost." BRB IALL and a reset "set
+-- every record to zero".
+unfoldable pub recordsAfter : ℕ → Effect → List Record → List Record
+recordsAfter size Keep list = list
+recordsAfter size (Push new) list = new ∷ take (size - 1) list
+recordsAfter size Clear list = replicate size zeroRecord
+recordsAfter size (Start n) list = replicate n zeroRecord
+
+-- A taken branch, an exception or an exception return. Its source side is the current level.
+pub data IsEvent : Operation → Type 0 where
+  branch : {kind m source target : ℕ} → IsEvent (Branch kind m source target)
+  exception : {kind level source target : ℕ} → IsEvent (Exception kind level source target)
+  return : {level m source target : ℕ} → IsEvent (Return level m source target)
+
+-- Its target side: the level that it enters.
+abbrev pub entered : State → {o : Operation} → IsEvent o → ℕ
+entered s branch = s .level
+entered s (exception {level = level}) = level
+entered s (return {level = level}) = level

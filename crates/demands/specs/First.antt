@@ -1,0 +1,12 @@
+-- What "in order of checking" means, without computing: n is the number of the first line whose condition holds.
+use Prim.Native.Nat.{ℕ}
+use mathlib.Core.Bool.{Bool, true, false}
+use mathlib.Core.List.{List, [], _∷_}
+
+pub data First : List (ℕ × Bool) → ℕ → Type 0 where
+  -- the first line's condition holds
+  here : {n : ℕ} {lines : List (ℕ × Bool)} → First ((n, true) ∷ lines) n
+  -- it does not hold, and n is that of the first of the others
+  later : {n m : ℕ} {lines : List (ℕ × Bool)} → First lines n → First ((m, false) ∷ lines) n
+  -- no condition holds
+  none : First [] 0
