@@ -1,6 +1,6 @@
 -- Demand 2, on one operation: what an accepted operation does to the list of records, what a new record holds, and what a
 -- read shows.
-use Prim.Native.Nat.{ℕ, zero, suc, _+_, _*_, _^_, _/_, _%_, _≤_, _<_}
+use Prim.Native.Nat.{ℕ, _+_, _*_, _^_, _/_, _%_, _≤_, _<_}
 use mathlib.Core.Path.{_≡_, refl, _∙_}
 use mathlib.Core.Bool.{Bool, true, false, cond, _&&_, not}
 use mathlib.Core.List.{List}
@@ -27,7 +27,7 @@ use Rattle.access.specs.Access.{isPerformed, iallOutcome, shownRecord, shownNum
 use Rattle.operation.specs.declared.Operation.{Operation}
 use Rattle.operation.specs.declared.Operation.the-variants.{Reset, Branch, Exception, Return, Platform, Read, Write, Iall, Unknown}
 use Rattle.operation.specs.Refusal.{notReset, sizeAfter, refusalOf}
-use Rattle.operation.proofs.Laws.{accepts}
+use Rattle.operation.proofs.Laws.{accepts, sized}
 use Rattle.change.specs.Change.{changed, passed, effectOf}
 use Rattle.recorder.specs.Step.{accepted, acceptedWith, stepOf}
 use Rattle.recorder.proofs.Laws.{accepted-step, refused-step}
@@ -173,10 +173,6 @@ pushed-by s Iall r new h = go (isPerformed (iallOutcome s)) h
     go true p = never (cc)
     go false p = never (cc)
 pushed-by s Unknown r new h = never (cc)
-
-sized : (size : ℕ) → (eqb size 0 && true) ≡ false → 1 ≤ size
-sized zero h = never (cc)
-sized (suc size) h = omega arith
 
 event-sized : (s : State) {o : Operation} → IsEvent o → notReset s o ≡ false → 1 ≤ s .size
 unfolding notReset

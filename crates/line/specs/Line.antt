@@ -1,49 +1,38 @@
 -- Document 01, "Recordings": "It prints a line for each read (16 lower-case hex digits), each access not performed
 -- (undefined, trap2, trap3) and each refusal ('refused 4'); nothing else."
-use Prim.Native.Nat.{ℕ, zero, suc, _+_, _/_, _%_}
-use Prim.Native.Char.{code}
-use Prim.Native.String.{String, [] as nothing, _∷_ as join}
+use Prim.Native.Nat.{ℕ, zero, suc, _+_}
 use mathlib.Core.Bool.{true, false, cond}
-use mathlib.Core.List.{List, [], _∷_, _++_}
-use lib.Dec.{leb, ltb}
+use mathlib.Core.List.{List, [], _++_}
+use lib.Dec.{leb}
 use lib.ListN.{length, replicate}
+use Rattle.number.specs.Number.{written}
+use Rattle.text.specs.Text.{bytesOfText, decimal, hexadecimal}
 use Rattle.state.specs.declared.State.{State}
 use Rattle.state.specs.Named.{fresh}
 use Rattle.recorder.specs.declared.Answer.{Answer}
 use Rattle.recorder.specs.declared.Answer.the-variants.{Done, Value, Undefined, Trap2, Trap3, Refused}
 use Rattle.recording.specs.RecordedStep.{recordedStep, stopsReading}
 
--- The bytes of a text.
-abbrev pub bytesOfText : String → List ℕ
-bytesOfText nothing = []
-bytesOfText (join c text) = code c ∷ bytesOfText text
-
--- The digit of a number below 16.
-abbrev pub hexDigit : ℕ → ℕ
-hexDigit n = cond (ltb n 10) (48 + n) (87 + n)
-
--- The lowest k hexadecimal digits of n, highest first.
-unfoldable pub hexDigits : ℕ → ℕ → List ℕ
-hexDigits zero n = []
-hexDigits (suc k) n = hexDigits k (n / 16) ++ (hexDigit (n % 16) ∷ [])
-
--- n in decimal, of at most k digits.
-unfoldable pub decimalIn : ℕ → ℕ → List ℕ
-decimalIn zero n = []
-decimalIn (suc k) n = cond (ltb n 10) ((48 + n) ∷ []) (decimalIn k (n / 10) ++ ((48 + n % 10) ∷ []))
-
--- A number below 2^64 in decimal.
-unfoldable pub decimal : ℕ → List ℕ
-decimal n = decimalIn 20 n
-
 -- The line of an answer, its end included, or no byte.
 unfoldable pub lineOf : Answer → List ℕ
 lineOf Done = []
-lineOf (Value v) = hexDigits 16 v ++ bytesOfText "\n"
+lineOf (Value v) = hexadecimal 16 v ++ bytesOfText "\n"
 lineOf Undefined = bytesOfText "undefined\n"
 lineOf Trap2 = bytesOfText "trap2\n"
 lineOf Trap3 = bytesOfText "trap3\n"
 lineOf (Refused n) = bytesOfText "refused " ++ decimal n ++ bytesOfText "\n"
+
+-- A line has at most this many bytes, its end included.
+abbrev pub longestLine : ℕ
+longestLine = 32
+
+-- Lent bytes with an answer's line at a place, and the line's length; where there is no room for the longest line, nothing is
+-- written.
+unfoldable pub lineWritten : List ℕ → ℕ → Answer → List ℕ
+lineWritten out at answer = cond (leb (at + longestLine) (length out)) (written out at (lineOf answer)) out
+
+unfoldable pub lineCount : List ℕ → ℕ → Answer → ℕ
+lineCount out at answer = cond (leb (at + longestLine) (length out)) (length (lineOf answer)) 0
 
 -- "The replay program starts from a fresh state with room for 64 records."
 abbrev pub replayRoom : List ℕ

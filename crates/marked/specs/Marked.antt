@@ -7,7 +7,7 @@ use Rattle.count.specs.declared.Decoded.{Decoded}
 use Rattle.count.specs.declared.Decoded.the-variants.{Known}
 use Rattle.recording.specs.declared.Numbers.{Numbers}
 use Rattle.filter.specs.Filter.{branchTypes, filterBit, chosen}
-use Rattle.line.specs.Line.{bytesOfText, hexDigits, decimalIn, decimal, lineOf, replayFrom, replayOf}
+use Rattle.text.specs.Text.{bytesOfText, digits, decimalCount, decimal, hexadecimal}
 use Rattle.count.specs.Count.{bitLength, exponent, mantissa, encoded, countOf, decoded}
 use Rattle.number.specs.Number.{numberIn, numberAt, bytesIn, bytesOf}
 use Rattle.state.specs.Sound.{closed, sound}
@@ -21,6 +21,7 @@ use Rattle.change.specs.Change.{changed, occasion, passed, effectOf}
 use Rattle.recorder.specs.Step.{answerOf, acceptedWith, accepted, stepOf}
 use Rattle.recording.specs.Recording.{fieldCount, numbersAt, operationAt, bytesOfAll, operationBytes}
 use Rattle.recording.specs.RecordedStep.{recordedStep}
+use Rattle.line.specs.Line.{lineOf, replayFrom, replayOf}
 
 -- An operation as document 01 writes it: code, cycles, then fields.
 abbrev pub operation : ℕ → ℕ → ℕ → ℕ → ℕ → ℕ → Numbers
@@ -87,5 +88,5 @@ cases =
     ∷ []
 
 pub marked : map computed cases ≡ cases
-unfolding bitLength exponent mantissa encoded countOf decoded numberIn numberAt bytesIn bytesOf closed sound records numbered pushed cleared roomAfter enabled prohibited filterBit chosen controlled valid countUnknown MPRED BRBINF recordOf made permitted trapped2 outcome readOutcome writeOutcome iallOutcome shownRecord shownNumber registerValue registerWritten operationOf unknownCode notReset outsideList notPermitted roomTooShort refusalOf changed occasion passed effectOf answerOf acceptedWith accepted stepOf fieldCount numbersAt operationAt bytesOfAll operationBytes recordedStep hexDigits decimalIn decimal lineOf replayFrom replayOf
+unfolding bitLength exponent mantissa encoded countOf decoded numberIn numberAt bytesIn bytesOf closed sound records numbered pushed cleared roomAfter enabled prohibited filterBit chosen controlled valid countUnknown MPRED BRBINF recordOf made permitted trapped2 outcome readOutcome writeOutcome iallOutcome shownRecord shownNumber registerValue registerWritten operationOf unknownCode notReset outsideList notPermitted roomTooShort refusalOf changed occasion passed effectOf answerOf acceptedWith accepted stepOf fieldCount numbersAt operationAt bytesOfAll operationBytes recordedStep digits decimalCount decimal hexadecimal lineOf replayFrom replayOf
 marked = refl

@@ -1,11 +1,13 @@
 -- What acceptance implies: none of the table's conditions holds.
-use Prim.Native.Nat.{ℕ, suc, _≤_}
+use Prim.Native.Nat.{ℕ, zero, suc, _≤_}
 use mathlib.Core.Path.{_≡_, refl}
-use mathlib.Core.Bool.{Bool, true, false, not}
+use mathlib.Core.Bool.{Bool, true, false, _&&_, not}
 use mathlib.Core.List.{List, _∷_}
 use native.Mathlib.Omega.{arith}
-use borrow.Author.Tests.{not-false, ltb-false}
+use borrow.Author.Tests.{not-false, ltb-false, eqb-true}
+use lib.Dec.{eqb}
 use lib.ListN.{drop}
+use Rattle.bits.proofs.Cases.{never}
 use Rattle.state.specs.declared.State.{State}
 use Rattle.state.specs.Sound.{sound}
 use Rattle.room.specs.Room.{needed}
@@ -42,3 +44,12 @@ accepts s o room h =
       permitted = e;
       room-enough = ltb-false room (needed (sizeAfter s o)) f;
     }
+
+-- Where there was a reset, the size is not 0.
+pub sized : (size : ℕ) → (eqb size 0 && true) ≡ false → 1 ≤ size
+sized zero h = never (cc)
+sized (suc size) h = omega arith
+
+-- The same from the test on the refusal.
+pub accepts-if : (s : State) (o : Operation) (room : ℕ) → eqb (refusalOf s o room) 0 ≡ true → Accepts s o room
+accepts-if s o room h = accepts s o room (eqb-true (refusalOf s o room) 0 h)

@@ -10,6 +10,7 @@ use lib.Dec.{leb, ltb, leb·suc-suc}
 use lib.ListN.{length, take, drop, replicate, length-replicate}
 use lib.Seq.{length-take-le, length-front, drop-at, getD-drop}
 use borrow.Author.Tests.{le-leb, le-ltb, lt-ltb, leb-true}
+use Rattle.bits.proofs.Each.{first, second}
 use Rattle.room.specs.declared.Record.{Record}
 use Rattle.room.specs.declared.Effect.{Effect}
 use Rattle.room.specs.declared.Effect.the-variants.{Keep, Push, Clear, Start}
@@ -81,18 +82,13 @@ kept n front room true h =
     let l : length front ≡ length (take n room) = e ∙ sym (length-take-le n room (h refl .1)) in
     (length-front room front n l, drop-at front (drop n room) n e)
 
-both-true : (a b : Bool) → a && b ≡ true → (a ≡ true) × (b ≡ true)
-both-true true b e = (refl, e)
-both-true false b e = (e, cc)
-
 kept-pushed : (size : ℕ) (r : Record) (room : List ℕ) → Kept (needed size) room (pushed size r room)
 unfolding pushed
 kept-pushed size r room =
     kept (needed size) (r .inf ∷ r .source ∷ r .target ∷ take (needed size - 3) room) room (leb 1 size && leb (needed size) (length room))
     (λ e.
-    let both = both-true (leb 1 size) (leb (needed size) (length room)) e in
-    let one : 1 ≤ size = leb-true 1 size (both .0) in
-    let fits : needed size ≤ length room = leb-true (needed size) (length room) (both .1) in
+    let one : 1 ≤ size = leb-true 1 size (first (leb 1 size) (leb (needed size) (length room)) e) in
+    let fits : needed size ≤ length room = leb-true (needed size) (length room) (second (leb 1 size) (leb (needed size) (length room)) e) in
     (omega (arith, length-take-le (needed size - 3) room (omega arith)), fits))
 
 kept-cleared : (size : ℕ) (room : List ℕ) → Kept (needed size) room (cleared size room)

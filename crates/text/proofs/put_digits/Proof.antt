@@ -1,14 +1,13 @@
 -- Digits are stored from the last to the first: the digits that are left, stored from the place on, are all of them stored.
-use Prim.Native.Nat.{ℕ, suc, _+_, _-_, _/_, _%_, _≤_, _<_}
-use mathlib.Core.Path.{_≡_, refl, sym, ap, _∙_}
-use mathlib.Core.List.{List, [], _∷_, _++_}
+use Prim.Native.Nat.{_≤_}
+use mathlib.Core.Path.{_≡_, refl, sym, _∙_}
 use native.Mathlib.Nat.{mod-lt}
 use native.Mathlib.Omega.{arith}
-use lib.ListN.{length, set, length-set}
+use lib.ListN.{length, length-set}
 use lib.Seq.{sets}
 use denote.Ref.{now}
 use Rattle.number.proofs.Laws.{sets-written}
-use Rattle.text.specs.Text.{digit, digits}
+use Rattle.text.specs.Text.{digits}
 use Rattle.text.proofs.Laws.{length-digits, one-less, none-left}
 use Rattle.text.proofs.put_digits.Statement.{statement}
 use Rattle.text.proofs.put_digits.Tie as tie

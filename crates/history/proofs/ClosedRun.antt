@@ -1,0 +1,53 @@
+-- A closed run: records of a stretch that are counted, one of them rounded, BRB IALL before them, and a refused operation in their midst.
+use Prim.Native.Nat.{ℕ}
+use mathlib.Core.Path.{_≡_, refl}
+use mathlib.Core.Bool.{Bool, true, false}
+use mathlib.Core.List.{List, [], _∷_}
+use lib.ListN.{replicate}
+use Rattle.state.specs.Named.{fresh}
+use Rattle.room.specs.declared.Record.{Record}
+use Rattle.operation.specs.Operation.{operationOf}
+use Rattle.history.specs.History.{Timed, Machine, shown, notesOf, stretch, S, T}
+use Rattle.filter.specs.Filter.{filterBit, chosen}
+use Rattle.count.specs.Count.{bitLength, exponent, mantissa, encoded, countOf, decoded}
+use Rattle.state.specs.Sound.{closed, sound}
+use Rattle.room.specs.Room.{records, numbered, pushed, cleared, roomAfter}
+use Rattle.region.specs.Region.{enabled, prohibited}
+use Rattle.event.specs.Event.{controlled, valid, countUnknown, MPRED, BRBINF, recordOf, made}
+use Rattle.access.specs.Access.{permitted, trapped2, outcome, readOutcome, writeOutcome, iallOutcome, registerWritten}
+use Rattle.operation.specs.Refusal.{unknownCode, notReset, outsideList, notPermitted, roomTooShort, refusalOf}
+use Rattle.change.specs.Change.{changed, occasion, passed, effectOf}
+use Rattle.recorder.specs.Step.{answerOf, acceptedWith, accepted, stepOf}
+use Rattle.history.specs.History.{stepped, run, notedStep, notedRun}
+
+abbrev operation : ℕ → ℕ → ℕ → ℕ → ℕ → ℕ → Timed
+operation code cycles a b c d = record { operation = operationOf code a b c d; cycles = cycles }
+
+-- Session S1's operations up to its first branch; then BRB IALL, two branches, a branch of no such type (refused 4), a read, and a branch.
+abbrev session : List Timed
+session =
+    operation 0 0 8 0 0 0
+    ∷ operation 4 0 49 0 0 0
+    ∷ operation 6 0 1 10 0 0
+    ∷ operation 6 0 2 8 0 0
+    ∷ operation 6 0 3 65536 0 0
+    ∷ operation 3 0 1 0 128 4096
+    ∷ operation 1 300 0 0 4100 4112
+    ∷ operation 7 5 0 0 0 0
+    ∷ operation 1 295 8 1 4112 4096
+    ∷ operation 1 300 0 0 4100 4112
+    ∷ operation 1 1000 7 0 4100 4112
+    ∷ operation 5 13 32 0 0 0
+    ∷ operation 1 500 0 0 4100 4112
+    ∷ []
+
+abbrev start : Machine
+start = record { state = fresh; room = replicate 24 0 }
+
+abbrev seen : List Record
+seen = shown (run start session)
+
+-- Records 0 to 2 are such a stretch: the counts 512 (of 513 cycles) and 300, over 813 cycles. Record 3 was cleared.
+pub closed-run : _≡_ {A = Bool × Bool × ℕ × ℕ} (stretch seen 0 2, stretch seen 0 3, S seen 0 2, T (notesOf start session) 0 2) (true, false, 812, 813)
+unfolding bitLength exponent mantissa encoded countOf decoded closed sound records numbered pushed cleared roomAfter enabled prohibited filterBit chosen controlled valid countUnknown MPRED BRBINF recordOf made permitted trapped2 outcome readOutcome writeOutcome iallOutcome registerWritten operationOf unknownCode notReset outsideList notPermitted roomTooShort refusalOf changed occasion passed effectOf answerOf acceptedWith accepted stepOf stepped run notedStep notedRun stretch S
+closed-run = refl

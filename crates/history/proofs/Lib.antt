@@ -1,0 +1,5 @@
+pub mod Notes
+pub mod Allowed
+pub mod Demand3
+pub mod ClosedRun
+pub mod Sound

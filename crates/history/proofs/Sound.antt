@@ -1,0 +1,150 @@
+-- Soundness is kept: from a sound state every operation leads to a sound state. So refusal 7 is never given in a run from one.
+use Prim.Native.Nat.{ℕ, zero, suc, _+_, _/_, _≤_, _<_, min}
+use native.Mathlib.Nat.{le-refl}
+use native.Mathlib.Omega.{arith}
+use mathlib.Core.Path.{_≡_, refl, ap, _∙_}
+use mathlib.Core.Bool.{Bool, true, false, cond}
+use mathlib.Core.Logic.{_≢_}
+use mathlib.Core.List.{List, [], _∷_}
+use lib.Bits.{and-step}
+use lib.Dec.{eqb, leb, ltb}
+use lib.ListN.{length}
+use borrow.Author.Tests.{le-leb, ltb-true, ltb-false, eq-eqb, eqb-true}
+use Rattle.bits.specs.Bits.{within, oneOf}
+use Rattle.state.specs.declared.State.{State}
+use Rattle.state.specs.declared.Running.{Running}
+use Rattle.state.specs.Named.{sizes, atLevel, withPlatform, withRunning}
+use Rattle.state.specs.Sound.{platformMask, controlMask, filterMask, kept, cap, closed, sound}
+use Rattle.room.specs.declared.Effect.{Effect}
+use Rattle.room.specs.declared.Effect.the-variants.{Keep, Push, Clear, Start}
+use Rattle.access.specs.Access.{writeOutcome, isPerformed, meant, registerWritten}
+use Rattle.operation.specs.declared.Operation.{Operation}
+use Rattle.operation.specs.declared.Operation.the-variants.{Reset, Branch, Exception, Return, Platform, Read, Write, Iall, Unknown}
+use Rattle.operation.specs.Refusal.{unknownCode, outsideList, notPermitted, refusalOf}
+use Rattle.change.specs.Change.{changed, occasion, passed, effectOf, runningAfter}
+use Rattle.recorder.specs.Step.{acceptedWith, accepted, stepOf}
+use Rattle.history.specs.History.{Timed, Machine, isAccepted, stepped, run, FromReset, reset, unset}
+use Rattle.bits.proofs.Each.{each}
+use Rattle.operation.proofs.Laws.{Accepts, accepts-if}
+
+-- What a mask keeps, it keeps again.
+kept-again : (n value mask : ℕ) → value ≤ n → kept mask (kept mask value) ≡ kept mask value
+kept-again zero value mask h = let none : value ≡ 0 = omega arith in rw none
+kept-again (suc n) value mask h =
+    let low : kept mask value / 2 ≡ kept (mask / 2) (value / 2) = omega (arith, and-step value mask) in
+    let again : kept (mask / 2) (kept mask value / 2) ≡ kept (mask / 2) (value / 2) =
+    ap (kept (mask / 2)) low ∙ kept-again n (value / 2) (mask / 2) (omega arith)
+    in
+    omega (arith, again, and-step value mask, and-step (kept mask value) mask)
+
+-- The lines of `sound` but for the running count, and those of the running count.
+record Set (s : State) : Type 0 where
+  level : leb (s .level) 3 ≡ true
+  size : oneOf (0 ∷ sizes) (s .size) ≡ true
+  v1p1 : leb (s .v1p1) 1 ≡ true
+  p : within platformMask (s .p) ≡ true
+  brbcr1 : within controlMask (s .brbcr1) ≡ true
+  brbcr2 : within controlMask (s .brbcr2) ≡ true
+  brbfcr : within filterMask (s .brbfcr) ≡ true
+  isOpen : closed s (s .level) ≡ false
+
+record Counts (r : Running) : Type 0 where
+  count : leb (r .count) cap ≡ true
+  unknown : leb (r .unknown) 1 ≡ true
+
+lines : (s : State) → sound s ≡ true → Set s × Counts (s .running)
+unfolding sound
+lines s h = search each depth 12
+
+sound-of : (s : State) (r : Running) → Set s → Counts r → sound (withRunning r s) ≡ true
+unfolding sound closed
+sound-of s r a b = rw (a .level, a .size, a .v1p1, a .p, a .brbcr1, a .brbcr2, a .brbfcr, a .isOpen, b .count, b .unknown)
+
+sized : (size : ℕ) → oneOf sizes size ≡ true → oneOf (0 ∷ sizes) size ≡ true
+sized size e = rw e
+
+entered : (s : State) (level : ℕ) → ltb 3 level ≡ false → closed s level ≡ false → Set s → Set (atLevel level s)
+unfolding closed
+entered s level low permitted t = let high : leb level 3 ≡ true = le-leb level 3 (ltb-false 3 level low) in search
+
+within-kept : (f : Bool) (mask value old : ℕ) → within mask old ≡ true → within mask (cond f (kept mask value) old) ≡ true
+within-kept true mask value old h = eq-eqb _ _ (kept-again value value mask (le-refl value))
+within-kept false mask value old h = h
+
+written : (s : State) (f : Bool) (k value : ℕ) → Set s → Set (cond f (registerWritten s k value) s)
+unfolding closed registerWritten
+written s true k value t =
+    let one = within-kept (eqb k 1) controlMask value (s .brbcr1) (t .brbcr1) in
+    let two = within-kept (eqb k 2) controlMask value (s .brbcr2) (t .brbcr2) in
+    let three = within-kept (eqb k 3) filterMask value (s .brbfcr) (t .brbfcr) in
+    search
+written s false k value t = t
+
+set-after : {s : State} {room : ℕ} (o : Operation) → Accepts s o room → Set s → Set (changed s o)
+unfolding changed outsideList notPermitted closed
+set-after (Reset size v1p1) a t =
+    let listed : oneOf (0 ∷ sizes) size ≡ true = sized size (search each) in
+    let flag : leb v1p1 1 ≡ true = le-leb v1p1 1 (ltb-false 1 v1p1 (search each)) in
+    search
+set-after (Branch kind m source target) a t = t
+set-after {s} (Exception kind level source target) a t = entered s level (search each) (search each) t
+set-after {s} (Return level m source target) a t = entered s level (search each) (search each) t
+set-after {s} (Platform p) a t =
+    let inside : within platformMask p ≡ true = search each in
+    let top : closed (withPlatform p s) (s .level) ≡ false = rw (eqb-true (s .level) 3 (search each)) in
+    search
+set-after (Read r) a t = t
+set-after {s} (Write r value) a t = written s (isPerformed (writeOutcome s r)) (meant s r) value t
+set-after Iall a t = t
+set-after Unknown a t = t
+
+counts-passed : (before after : State) (cycles : ℕ) → Counts (before .running) → Counts (passed before after cycles)
+unfolding passed
+counts-passed before after cycles c = record { count = le-leb (min (before .running .count + cycles) cap) cap (omega arith); unknown = either-flag (occasion before after) }
+  where
+    either-flag : (f : Bool) → leb (cond f 1 (before .running .unknown)) 1 ≡ true
+    either-flag true = refl
+    either-flag false = c .unknown
+
+counts-after : (e : Effect) (r : Running) → Counts r → Counts (runningAfter e r)
+counts-after Keep r c = c
+counts-after (Push new) r c = record { count = refl; unknown = refl }
+counts-after Clear r c = c
+counts-after (Start size) r c = record { count = refl; unknown = refl }
+
+pub sound-kept : (m : Machine) (t : Timed) → sound (m .state) ≡ true → sound (stepped m t .state) ≡ true
+unfolding stepped stepOf accepted acceptedWith
+sound-kept m t h = go (isAccepted m t) refl
+  where
+    go : (b : Bool) → isAccepted m t ≡ b → sound (stepped m t .state) ≡ true
+    go true e =
+        let (set, counts) = lines (m .state) h in
+        rw e
+        (sound-of (changed (m .state) (t .operation)) _
+        (set-after (t .operation) (accepts-if (m .state) (t .operation) (length (m .room)) e) set)
+        (counts-after (effectOf (m .state) (t .operation) _) _ (counts-passed (m .state) (changed (m .state) (t .operation)) (t .cycles) counts)))
+    go false e = rw e h
+
+pub sound-run : (m : Machine) (list : List Timed) → sound (m .state) ≡ true → sound (run m list .state) ≡ true
+unfolding run
+sound-run m [] h = h
+sound-run m (t ∷ list) h = sound-run (stepped m t) list (sound-kept m t h)
+
+-- The fresh state is sound, and so is one in which a reset is accepted.
+pub sound-from : {m : Machine} {list : List Timed} → FromReset m list → sound (m .state) ≡ true
+unfolding sound closed
+sound-from unset = refl
+sound-from (reset {m = m} {size = size} {v1p1 = v1p1} e) = accepts-if (m .state) (Reset size v1p1) (length (m .room)) e .is-sound
+
+below : (t : Bool) (n rest : ℕ) → ltb n 7 ≡ true → ltb rest 7 ≡ true → ltb (cond t n rest) 7 ≡ true
+below true n rest h k = h
+below false n rest h k = k
+
+below-7 : (s : State) (o : Operation) (room : ℕ) → sound s ≡ true → refusalOf s o room < 7
+unfolding refusalOf
+below-7 s o room h = ltb-true (refusalOf s o room) 7 (rw h (below (unknownCode o) 2 _ refl (search below depth 8)))
+
+-- In a sequence from a reset, and so from the fresh state, refusal 7 is never given.
+pub never-unsound : (m : Machine) (list : List Timed) → FromReset m list → (o : Operation)
+    → refusalOf (run m list .state) o (length (run m list .room)) ≢ 7
+never-unsound m list from o e = omega (arith, below-7 (run m list .state) o (length (run m list .room)) (sound-run m list (sound-from from)))

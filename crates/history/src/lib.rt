@@ -1,0 +1,1 @@
+// Theorems over sequences of operations: specs/ and proofs/.
