@@ -1,138 +1,59 @@
+-- The line of an answer, as defined: each arm knows its answer, and what it writes is that answer's line.
+use Prim.Native.Nat.{ℕ, _+_, _≤_}
 use borrow.Author.Needs.{needs}
+use mathlib.Core.Path.{_≡_, refl, sym}
+use mathlib.Core.List.{List}
+use native.Mathlib.Omega.{arith}
+use lib.ListN.{length}
+use denote.Ref.{now}
+use Rattle.text.specs.Text.{bytesOfText, writtenIf, countIf}
+use Rattle.text.proofs.Laws.{wrote, written-nothing}
+use Rattle.number.specs.Number.{written}
+use Rattle.line.specs.Line.{lineOf}
 use Rattle.line.proofs.line_at.Statement.{statement}
 use Rattle.line.proofs.line_at.Tie as tie
-use Rattle.line.proofs.line_at.Reads as reads
-use Rattle.line.proofs.line_at.Lts as lts
-use Rattle.line.proofs.refused_line.Reads as refused-line-reads
-use Rattle.line.proofs.value_line.Reads as value-line-reads
-use Rattle.text.proofs.write_text.Reads as write-text-reads
 
--- src/lib.rt:43:25
-enum-told : tie.Need-enum-told
-enum-told c = search needs
-
--- src/lib.rt:44:23
-enum-known-answer : tie.Need-enum-known-answer
-enum-known-answer c = search needs
-
--- src/lib.rt:44:29
-value-line-requires : tie.Need-value-line-requires
-value-line-requires c κs = search needs
-
--- src/lib.rt:45:41
-enum-told-2 : tie.Need-enum-told-2
-enum-told-2 c = search needs
-
--- src/lib.rt:45:50
-slice-aggregate-write-text : tie.Need-slice-aggregate-write-text
-slice-aggregate-write-text c = search needs
-
--- src/lib.rt:45:30
-write-text-requires : tie.Need-write-text-requires
-write-text-requires c κs = search needs
-
--- src/lib.rt:46:37
-enum-told-3 : tie.Need-enum-told-3
-enum-told-3 c = search needs
-
--- src/lib.rt:46:46
-slice-aggregate-write-text-2 : tie.Need-slice-aggregate-write-text-2
-slice-aggregate-write-text-2 c = search needs
-
--- src/lib.rt:46:26
-write-text-requires-2 : tie.Need-write-text-requires-2
-write-text-requires-2 c κs = search needs
-
--- src/lib.rt:47:37
-enum-told-4 : tie.Need-enum-told-4
-enum-told-4 c = search needs
-
--- src/lib.rt:47:46
-slice-aggregate-write-text-3 : tie.Need-slice-aggregate-write-text-3
-slice-aggregate-write-text-3 c = search needs
-
--- src/lib.rt:47:26
-write-text-requires-3 : tie.Need-write-text-requires-3
-write-text-requires-3 c κs = search needs
-
--- src/lib.rt:48:25
-enum-known-answer-2 : tie.Need-enum-known-answer-2
-enum-known-answer-2 c = search needs
-
--- src/lib.rt:48:31
-refused-line-requires : tie.Need-refused-line-requires
-refused-line-requires c κs = search needs
-
--- src/lib.rt:37:1
-returns : tie.Need-returns
-returns c = ?
-
--- src/lib.rt:37:1
-same-length : tie.Need-same-length
-same-length c = search needs
-
--- src/lib.rt:37:1
-returns-2 : tie.Need-returns-2
-returns-2 c = ?
-
--- src/lib.rt:37:1
-same-length-2 : tie.Need-same-length-2
-same-length-2 c = search needs
-
--- src/lib.rt:37:1
-returns-3 : tie.Need-returns-3
-returns-3 c = ?
-
--- src/lib.rt:37:1
-same-length-3 : tie.Need-same-length-3
-same-length-3 c = search needs
-
--- src/lib.rt:37:1
-returns-4 : tie.Need-returns-4
-returns-4 c = ?
-
--- src/lib.rt:37:1
-same-length-4 : tie.Need-same-length-4
-same-length-4 c = search needs
-
--- src/lib.rt:37:1
-returns-5 : tie.Need-returns-5
-returns-5 c = ?
-
--- src/lib.rt:37:1
-same-length-5 : tie.Need-same-length-5
-same-length-5 c = search needs
-
--- src/lib.rt:37:1
-returns-6 : tie.Need-returns-6
-returns-6 c = ?
+-- A text of at most 32 bytes that was written where 32 have room.
+whole : {out′ : List ℕ} {count : ℕ} (out : List ℕ) (at : ℕ) (text : List ℕ) → length text ≤ 32 → at + 32 ≤ length out → count ≡ countIf out at text
+    → out′ ≡ writtenIf out at text → (count ≡ length text) × (out′ ≡ written out at text)
+whole out at text short enough c o = let w = wrote out at text (omega arith) c o in (w .counted, w .content)
 
 pub line-at-spec : {M : Type 1} → statement M
+unfolding lineOf
 line-at-spec =
     tie.close
     (tie.spec
-    enum-told
-    enum-known-answer
-    value-line-requires
-    enum-told-2
-    slice-aggregate-write-text
-    write-text-requires
-    enum-told-3
-    slice-aggregate-write-text-2
-    write-text-requires-2
-    enum-told-4
-    slice-aggregate-write-text-3
-    write-text-requires-3
-    enum-known-answer-2
-    refused-line-requires
-    returns
-    same-length
-    returns-2
-    same-length-2
-    returns-3
-    same-length-3
-    returns-4
-    same-length-4
-    returns-5
-    same-length-5
-    returns-6)
+    (λ c. search needs)
+    (λ c. search needs)
+    (λ c κs. c .before .before .before .before .before .pre)
+    (λ c. search needs)
+    (λ c. search needs)
+    (λ _ _. tt)
+    (λ c. search needs)
+    (λ c. search needs)
+    (λ _ _. tt)
+    (λ c. search needs)
+    (λ c. search needs)
+    (λ _ _. tt)
+    (λ c. search needs)
+    (λ c κs. c .before .before .before .before .before .pre)
+    (λ c. rw (c .enum-told .given .1) (refl, sym (written-nothing (now (c .before .before .before .args .out)) (c .before .before .before .args .at))))
+    (λ c. search needs)
+    (λ c. rw (c .before .before .before .before .before .answer .given .1) (c .before .before .value-line .ensures))
+    (λ c. search needs)
+    (λ c.
+    let a = c .before .before .before .before .before .before .before .before .args in
+    rw (c .before .before .before .before .before .enum-told2 .given .1)
+    (whole (now (a .out)) (a .at) (bytesOfText "undefined\n") (omega arith) (omega arith) (c .before .before .write-text .ensures .0) (c .before .before .write-text .ensures .1)))
+    (λ c. search needs)
+    (λ c.
+    let a = c .before .before .before .before .before .before .before .before .args in
+    rw (c .before .before .before .before .before .enum-told3 .given .1)
+    (whole (now (a .out)) (a .at) (bytesOfText "trap2\n") (omega arith) (omega arith) (c .before .before .write-text2 .ensures .0) (c .before .before .write-text2 .ensures .1)))
+    (λ c. search needs)
+    (λ c.
+    let a = c .before .before .before .before .before .before .before .before .args in
+    rw (c .before .before .before .before .before .enum-told4 .given .1)
+    (whole (now (a .out)) (a .at) (bytesOfText "trap3\n") (omega arith) (omega arith) (c .before .before .write-text3 .ensures .0) (c .before .before .write-text3 .ensures .1)))
+    (λ c. search needs)
+    (λ c. rw (c .before .before .before .before .before .answer2 .given .1) (c .before .before .refused-line .ensures)))

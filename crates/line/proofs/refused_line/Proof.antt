@@ -1,67 +1,71 @@
+-- The line of a refusal: the word, the number in decimal, and its end, one behind another.
+use Prim.Native.Nat.{ℕ, _+_}
 use borrow.Author.Needs.{needs}
+use mathlib.Core.List.{[], _∷_, _++_}
+use native.Mathlib.Omega.{arith}
+use lib.ListN.{length-append}
+use denote.Ref.{now}
+use Rattle.text.specs.Text.{bytesOfText, decimal}
+use Rattle.text.proofs.Laws.{length-decimal, Wrote, wrote, wrote-more}
+use Rattle.recorder.specs.declared.Answer.the-variants.{Refused}
+use Rattle.line.specs.Line.{lineOf}
+use Rattle.line.proofs.Laws.{length-line}
 use Rattle.line.proofs.refused_line.Statement.{statement}
 use Rattle.line.proofs.refused_line.Tie as tie
-use Rattle.line.proofs.refused_line.Reads as reads
-use Rattle.line.proofs.refused_line.Lts as lts
-use Rattle.text.proofs.write_decimal.Reads as write-decimal-reads
-use Rattle.text.proofs.write_text.Reads as write-text-reads
 
--- src/lib.rt:31:36
-slice-aggregate-write-text : tie.Need-slice-aggregate-write-text
-slice-aggregate-write-text c = search needs
+abbrev Word : tie.After-write-text → Type 0
+Word c =
+    let a = c .before .before .before .before .args in
+    Wrote (now (a .out)) (a .at) (bytesOfText "refused ") (c .write-text .result) (c .write-text .last .0)
 
--- src/lib.rt:31:9
-write-text-requires : tie.Need-write-text-requires
-write-text-requires c κs = search needs
+word : (c : tie.After-write-text) → Word c
+word c =
+    let a = c .before .before .before .before .args in
+    wrote (now (a .out)) (a .at) (bytesOfText "refused ") (omega arith) (c .write-text .ensures .0) (c .write-text .ensures .1)
 
--- src/lib.rt:32:42
-add-write-decimal : tie.Need-add-write-decimal
-add-write-decimal c = ?
+abbrev Used : tie.After-write-decimal → Type 0
+Used c =
+    let w = c .before .before .before .before in
+    let a = w .before .before .before .before .args in
+    Wrote (now (a .out)) (a .at) (bytesOfText "refused " ++ decimal (a .n)) (w .write-text .result + c .write-decimal .result)
+    (c .write-decimal .last .0)
 
--- src/lib.rt:32:23
-write-decimal-requires : tie.Need-write-decimal-requires
-write-decimal-requires c κs = search needs
+used : (c : tie.After-write-decimal) → Used c
+used c =
+    let w = c .before .before .before .before in
+    let a = w .before .before .before .before .args in
+    wrote-more (decimal (a .n)) (word w) (omega (arith, length-decimal (a .n))) (c .write-decimal .ensures .0) (c .write-decimal .ensures .1)
 
--- src/lib.rt:32:16
-add-used : tie.Need-add-used
-add-used c = ?
+abbrev Line : tie.After-write-text2 → Type 0
+Line c =
+    let d = c .before .before .before .before .before in
+    let w = d .before .before .before .before in
+    let a = w .before .before .before .before .args in
+    Wrote (now (a .out)) (a .at) (lineOf (Refused (a .n))) (w .write-text .result + d .write-decimal .result + c .write-text2 .result)
+    (c .write-text2 .last .0)
 
--- src/lib.rt:33:28
-add-write-text : tie.Need-add-write-text
-add-write-text c = ?
+line : (c : tie.After-write-text2) → Line c
+unfolding lineOf
+line c =
+    let d = c .before .before .before .before .before in
+    let a = d .before .before .before .before .before .before .before .before .args in
+    wrote-more (10 ∷ []) (used d) (simp length-append (omega (arith, length-decimal (a .n)))) (c .write-text2 .ensures .0) (c .write-text2 .ensures .1)
 
--- src/lib.rt:33:39
-slice-aggregate-write-text-2 : tie.Need-slice-aggregate-write-text-2
-slice-aggregate-write-text-2 c = search needs
-
--- src/lib.rt:33:12
-write-text-requires-2 : tie.Need-write-text-requires-2
-write-text-requires-2 c κs = search needs
-
--- src/lib.rt:33:5
-add-result : tie.Need-add-result
-add-result c = ?
-
--- src/lib.rt:26:1
-same-length : tie.Need-same-length
-same-length c = search needs
-
--- src/lib.rt:26:1
-returns : tie.Need-returns
-returns c = ?
+abbrev number : tie.After-slice-known3 → ℕ
+number c = c .before .before .before .before .before .before .before .before .before .before .args .n
 
 pub refused-line-spec : {M : Type 1} → statement M
 refused-line-spec =
     tie.close
     (tie.spec
-    slice-aggregate-write-text
-    write-text-requires
-    add-write-decimal
-    write-decimal-requires
-    add-used
-    add-write-text
-    slice-aggregate-write-text-2
-    write-text-requires-2
-    add-result
-    same-length
-    returns)
+    (λ c. search needs)
+    (λ _ _. tt)
+    (λ c. omega (arith, word (c .before .before .before) .counted))
+    (λ _ _. tt)
+    (λ c. omega (arith, simp length-append at (used (c .before .before) .counted), length-decimal (number c)))
+    (λ c. omega (arith, simp length-append at (used (c .before .before .before) .counted), length-decimal (number (c .before))))
+    (λ c. search needs)
+    (λ _ _. tt)
+    (λ c. omega (arith, line (c .before .before) .counted, length-line (Refused (number (c .before .before .before .before .before)))))
+    (λ c. search needs)
+    (λ c. let l = line (c .before .before) in (l .counted, l .content)))

@@ -1,32 +1,49 @@
 -- The line of a read: sixteen digits, and its end behind them.
-use Prim.Native.Nat.{ℕ}
+use Prim.Native.Nat.{_+_}
 use borrow.Author.Needs.{needs}
-use mathlib.Core.List.{List, [], _∷_}
+use mathlib.Core.List.{[], _∷_}
 use native.Mathlib.Omega.{arith}
 use denote.Ref.{now}
 use Rattle.text.specs.Text.{hexadecimal}
 use Rattle.text.proofs.Laws.{length-hexadecimal, Wrote, wrote, wrote-more}
+use Rattle.recorder.specs.declared.Answer.the-variants.{Value}
 use Rattle.line.specs.Line.{lineOf}
+use Rattle.line.proofs.Laws.{length-line}
 use Rattle.line.proofs.value_line.Statement.{statement}
 use Rattle.line.proofs.value_line.Tie as tie
 
-digits : (c : tie.After-write-hexadecimal) → Wrote (now (c .before .before .before .args .out)) (c .before .before .before .args .at) (hexadecimal 16 (c .before .before .before .args .v)) (c .write-hexadecimal .result) (c .write-hexadecimal .last .0)
+abbrev Digits : tie.After-write-hexadecimal → Type 0
+Digits c =
+    let a = c .before .before .before .args in
+    Wrote (now (a .out)) (a .at) (hexadecimal 16 (a .v)) (c .write-hexadecimal .result) (c .write-hexadecimal .last .0)
+
+digits : (c : tie.After-write-hexadecimal) → Digits c
 digits c =
     let a = c .before .before .before .args in
-    wrote (now (a .out)) (a .at) (hexadecimal 16 (a .v)) (omega (arith, length-hexadecimal 16 (a .v))) (c .write-hexadecimal .ensures .0) (c .write-hexadecimal .ensures .1)
+    wrote (now (a .out)) (a .at) (hexadecimal 16 (a .v)) (omega (arith, length-hexadecimal 16 (a .v))) (c .write-hexadecimal .ensures .0)
+    (c .write-hexadecimal .ensures .1)
 
-returns : tie.Need-returns
+abbrev Line : tie.After-write-text → Type 0
+Line c =
+    let d = c .before .before .before .before .before in
+    let a = d .before .before .before .args in
+    Wrote (now (a .out)) (a .at) (lineOf (Value (a .v))) (d .write-hexadecimal .result + c .write-text .result) (c .write-text .last .0)
+
+line : (c : tie.After-write-text) → Line c
 unfolding lineOf
-returns c = ?
+line c =
+    let d = c .before .before .before .before .before in
+    let a = d .before .before .before .args in
+    wrote-more (10 ∷ []) (digits d) (omega (arith, length-hexadecimal 16 (a .v))) (c .write-text .ensures .0) (c .write-text .ensures .1)
 
 pub value-line-spec : {M : Type 1} → statement M
 value-line-spec =
     tie.close
     (tie.spec
     (λ _ _. tt)
-    (λ c. ?)
+    (λ c. let d = digits (c .before .before .before) in omega (arith, d .counted, length-hexadecimal 16 (c .before .before .before .before .before .before .args .v)))
     (λ c. search needs)
     (λ _ _. tt)
-    (λ c. ?)
+    (λ c. let l = line (c .before .before) in omega (arith, l .counted, length-line (Value (c .before .before .before .before .before .before .before .before .before .before .args .v))))
     (λ c. search needs)
-    returns)
+    (λ c. let l = line (c .before .before) in (l .counted, l .content)))

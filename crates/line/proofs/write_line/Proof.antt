@@ -1,34 +1,31 @@
+-- A line is written where the longest has room, else nothing is: the tests subtract, so that no sum wraps.
 use borrow.Author.Needs.{needs}
+use borrow.Author.Tests.{lt-leb, le-leb}
+use Prim.Native.Nat.{_+_}
+use native.Mathlib.Omega.{arith}
+use lib.ListN.{length}
+use denote.Ref.{now}
+use Rattle.line.specs.Line.{lineWritten, lineCount}
 use Rattle.line.proofs.write_line.Statement.{statement}
 use Rattle.line.proofs.write_line.Tie as tie
-use Rattle.line.proofs.write_line.Reads as reads
-use Rattle.line.proofs.write_line.Lts as lts
-use Rattle.line.proofs.line_at.Reads as line-at-reads
-
--- src/lib.rt:58:9
-returns : tie.Need-returns
-returns c = ?
-
--- src/lib.rt:60:8
-sub-if2 : tie.Need-sub-if2
-sub-if2 c = search needs
-
--- src/lib.rt:61:9
-returns-2 : tie.Need-returns-2
-returns-2 c = ?
-
--- src/lib.rt:63:5
-line-at-requires : tie.Need-line-at-requires
-line-at-requires c κs = search needs
-
--- src/lib.rt:53:1
-same-length : tie.Need-same-length
-same-length c = search needs
-
--- src/lib.rt:53:1
-returns-3 : tie.Need-returns-3
-returns-3 c = ?
 
 pub write-line-spec : {M : Type 1} → statement M
+unfolding lineWritten lineCount
 write-line-spec =
-    tie.close (tie.spec returns sub-if2 returns-2 line-at-requires same-length returns-3)
+    tie.close
+    (tie.spec
+    (λ c.
+    let a = c .before .before .args in
+    let e = lt-leb (a .at + 32) (length (now (a .out))) (omega arith) in
+    (rw e, rw e))
+    (λ c. search needs)
+    (λ c.
+    let a = c .before .before .before .args in
+    let e = lt-leb (a .at + 32) (length (now (a .out))) (omega arith) in
+    (rw e, rw e))
+    (λ c κs. omega arith)
+    (λ c. search needs)
+    (λ c.
+    let a = c .before .before .before .before .before .before .before .args in
+    let e = le-leb (a .at + 32) (length (now (a .out))) (omega arith) in
+    (rw e (c .before .before .line-at .ensures .0), rw e (c .before .before .line-at .ensures .1))))

@@ -1,0 +1,202 @@
+/* A C host of the library: session S1, each refusal, rooms and states at their bounds, through include/brb.h.
+ *
+ * Every lent area is allocated with exactly the numbers that are lent, so that valgrind sees a step past its end. */
+#include "brb.h"
+#include <inttypes.h>
+#include <stdio.h>
+#include <stdlib.h>
+#include <string.h>
+
+static unsigned passed, failed;
+
+static void check(int holds, const char *what) {
+    if (holds) {
+        passed++;
+    } else {
+        failed++;
+        fprintf(stderr, "c host: failed: %s\n", what);
+    }
+}
+
+/* A state and a room, lent with their lengths. */
+struct lent {
+    uint64_t *state, *room;
+    size_t state_numbers, room_numbers;
+};
+
+static uint64_t *numbers(size_t count, uint64_t fill) {
+    uint64_t *area = malloc(count ? count * sizeof *area : 1);
+    if (!area) {
+        perror("c host");
+        exit(2);
+    }
+    for (size_t i = 0; i < count; i++) area[i] = fill;
+    return area;
+}
+
+static struct lent lend(size_t state_numbers, uint64_t state_fill, size_t room_numbers) {
+    struct lent l = {numbers(state_numbers, state_fill), numbers(room_numbers, 7), state_numbers, room_numbers};
+    return l;
+}
+
+static void take_back(struct lent *l) {
+    free(l->state);
+    free(l->room);
+}
+
+static struct brb_answer step(struct lent *l, uint64_t code, uint64_t cycles, uint64_t a, uint64_t b, uint64_t c,
+                              uint64_t d) {
+    return brb_step(l->state, l->state_numbers, l->room, l->room_numbers, code, cycles, a, b, c, d);
+}
+
+/* An operation that must answer this number and value. */
+static void answers(struct lent *l, const uint64_t o[6], uint64_t number, uint64_t value, const char *what) {
+    struct brb_answer answer = step(l, o[0], o[1], o[2], o[3], o[4], o[5]);
+    check(answer.number == number, what);
+    check(answer.value == value, what);
+}
+
+static int same(const uint64_t *area, const uint64_t *kept, size_t count) {
+    return count == 0 || memcmp(area, kept, count * sizeof *area) == 0;
+}
+
+/* An operation that must be refused with this number, the value 0, and nothing changed. */
+static void refuses(struct lent *l, const uint64_t o[6], uint64_t number, const char *what) {
+    uint64_t *state = numbers(l->state_numbers, 0), *room = numbers(l->room_numbers, 0);
+    memcpy(state, l->state, l->state_numbers * sizeof *state);
+    memcpy(room, l->room, l->room_numbers * sizeof *room);
+    answers(l, o, number, 0, what);
+    check(same(l->state, state, l->state_numbers), what);
+    check(same(l->room, room, l->room_numbers), what);
+    free(state);
+    free(room);
+}
+
+#define OP(...) ((const uint64_t[6]){__VA_ARGS__})
+
+static void session_s1(void) {
+    struct lent l = lend(BRB_STATE_NUMBERS, 0, BRB_ROOM_NUMBERS(64));
+    answers(&l, OP(0, 0, 8, 0), 0, 0, "S1: reset");
+    answers(&l, OP(4, 0, 49), 0, 0, "S1: platform word");
+    answers(&l, OP(6, 0, 1, 10), 0, 0, "S1: write of BRBCR_EL1");
+    answers(&l, OP(6, 0, 2, 8), 0, 0, "S1: write of BRBCR_EL2");
+    answers(&l, OP(6, 0, 3, 65536), 0, 0, "S1: write of BRBFCR_EL1");
+    answers(&l, OP(3, 0, 1, 0, 128, 4096), 0, 0, "S1: return to EL1");
+    answers(&l, OP(1, 300, 0, 0, 4100, 4112), 0, 0, "S1: first branch");
+    answers(&l, OP(1, 300, 8, 1, 4112, 4096), 0, 0, "S1: second branch");
+    answers(&l, OP(5, 0, 32), 0, UINT64_C(0x0000012c00000843), "S1: newest BRBINF");
+    answers(&l, OP(5, 0, 33), 0, UINT64_C(0x0000400000000043), "S1: the BRBINF before it");
+    answers(&l, OP(5, 0, 64), 0, UINT64_C(0x1010), "S1: newest BRBSRC");
+    answers(&l, OP(5, 0, 2), 100, 0, "S1: BRBCR_EL2 at EL1 is undefined");
+
+    struct brb_answer answer = brb_read(l.state, l.state_numbers, l.room, l.room_numbers, 9, 96);
+    check(answer.number == 0 && answer.value == 4096, "brb_read: newest BRBTGT");
+    check(l.state[7] == 9, "brb_read: its cycles count");
+    answer = brb_read(l.state, l.state_numbers, l.room, l.room_numbers, 0, 4);
+    check(answer.number == 4 && answer.value == 0, "brb_read: register 4 is refused");
+    check(l.room[24] == 7, "S1: the room past eight records is not written");
+    take_back(&l);
+}
+
+static void refusals(void) {
+    struct lent l = lend(BRB_STATE_NUMBERS, 0, BRB_ROOM_NUMBERS(8));
+    refuses(&l, OP(8, 5), 2, "2: code 8 before a reset");
+    refuses(&l, OP(1, 5, 99), 3, "3: a branch before a reset");
+    refuses(&l, OP(0, 5, 9), 4, "4: a size of 9");
+    refuses(&l, OP(0, 5, 16), 6, "6: a reset to 16 records in a room for 8");
+    answers(&l, OP(0, 5, 8), 0, 0, "a reset to 8 records");
+    refuses(&l, OP(UINT64_MAX, 5), 2, "2: the largest code");
+    refuses(&l, OP(1, 5, 4), 4, "4: branch type 4");
+    refuses(&l, OP(1, 5, 0, 2), 4, "4: a flag of 2");
+    refuses(&l, OP(2, 5, 0x25, 3), 4, "4: exception type 0x25");
+    refuses(&l, OP(3, 5, 4), 4, "4: level 4");
+    refuses(&l, OP(4, 5, 0x80), 4, "4: bit 7 of P");
+    refuses(&l, OP(5, 5, 31), 4, "4: register 31");
+    refuses(&l, OP(2, 5, 0x22, 1), 5, "5: an exception to a lower level");
+    refuses(&l, OP(3, 5, 2), 5, "5: level 2 with EL2 not enabled");
+    answers(&l, OP(3, 5, 1), 0, 0, "a return to EL1");
+    refuses(&l, OP(4, 5, 0), 5, "5: a platform word at EL1");
+    l.room_numbers--;
+    refuses(&l, OP(5, 5, 1), 6, "6: a read with a room one number too short");
+    l.room_numbers++;
+    l.state[0] = 2;
+    refuses(&l, OP(8, 5), 7, "7: level 2 with EL2 not enabled, before an unknown code");
+    take_back(&l);
+}
+
+static void rooms(void) {
+    static const uint64_t sizes[] = {8, 16, 32, 64};
+    for (size_t i = 0; i < 4; i++) {
+        size_t needed = BRB_ROOM_NUMBERS(sizes[i]);
+        struct lent fits = lend(BRB_STATE_NUMBERS, 0, needed);
+        answers(&fits, OP(0, 1, sizes[i], 1), 0, 0, "a reset in a room that just fits");
+        check(fits.room[0] == 0 && fits.room[needed - 1] == 0, "the records are zero");
+        check(fits.state[0] == 3 && fits.state[1] == sizes[i] && fits.state[7] == 0, "the state after a reset");
+        take_back(&fits);
+
+        struct lent short_room = lend(BRB_STATE_NUMBERS, 0, needed - 1);
+        refuses(&short_room, OP(0, 1, sizes[i], 1), 6, "a reset in a room one number too short");
+        take_back(&short_room);
+
+        struct lent wide = lend(BRB_STATE_NUMBERS + 2, 0, needed + 2);
+        wide.state[9] = wide.state[10] = 5;
+        answers(&wide, OP(0, 1, sizes[i], 1), 0, 0, "a reset in a wider room");
+        check(wide.room[needed] == 7 && wide.room[needed + 1] == 7, "numbers past the needed room are not written");
+        check(wide.state[9] == 5 && wide.state[10] == 5, "numbers past the state are not written");
+        take_back(&wide);
+    }
+    struct lent empty = lend(BRB_STATE_NUMBERS, 0, 0);
+    refuses(&empty, OP(0, 1, 8), 6, "a reset in no room");
+    take_back(&empty);
+}
+
+static void states(void) {
+    struct lent fresh = lend(BRB_STATE_NUMBERS, 0, BRB_ROOM_NUMBERS(8));
+    for (uint64_t code = 1; code <= 7; code++) refuses(&fresh, OP(code, 1), 3, "a fresh state takes only a reset");
+    take_back(&fresh);
+
+    struct lent garbage = lend(BRB_STATE_NUMBERS, UINT64_C(0xDEADBEEFDEADBEEF), BRB_ROOM_NUMBERS(8));
+    refuses(&garbage, OP(0, 1, 8), 7, "a garbage state, even for a reset");
+    take_back(&garbage);
+
+    for (size_t count = 0; count < BRB_STATE_NUMBERS; count++) {
+        struct lent cut = lend(count, 0, BRB_ROOM_NUMBERS(8));
+        refuses(&cut, OP(0, 1, 8), 7, "a state that is too short");
+        take_back(&cut);
+    }
+
+    static const uint64_t unsound[BRB_STATE_NUMBERS] = {4, 9, 2, 0x80, 4, 4, 1, 1048577, 2};
+    for (size_t place = 0; place < BRB_STATE_NUMBERS; place++) {
+        struct lent l = lend(BRB_STATE_NUMBERS, 0, BRB_ROOM_NUMBERS(8));
+        l.state[place] = unsound[place];
+        refuses(&l, OP(0, 1, 8), 7, "a state with one number that is not sound");
+        take_back(&l);
+    }
+}
+
+static void counts(void) {
+    static const uint64_t marked[][2] = {{0, 0},           {255, 0xFF},         {256, 0x100},        {511, 0x1FF},
+                                         {513, 0x200},     {1048575, 0xCFF},    {1048576, 0x3FFF}};
+    for (size_t i = 0; i < sizeof marked / sizeof marked[0]; i++)
+        check(brb_count_encode(marked[i][0]) == marked[i][1], "P1 to P7: count to CC");
+    struct brb_answer answer = brb_count_decode(0xCFF);
+    check(answer.number == 0 && answer.value == 1046528, "P8: CC to count");
+    answer = brb_count_decode(0x3FFF);
+    check(answer.number == 0 && answer.value == 1048576, "exceeded");
+    answer = brb_count_decode(0xD00);
+    check(answer.number == 4 && answer.value == 0, "no count has this encoding");
+}
+
+int main(void) {
+    session_s1();
+    refusals();
+    rooms();
+    states();
+    counts();
+    if (failed) {
+        printf("c host: %u checks failed, %u passed\n", failed, passed);
+        return EXIT_FAILURE;
+    }
+    printf("c host: %u checks passed\n", passed);
+    return EXIT_SUCCESS;
+}

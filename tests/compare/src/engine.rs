@@ -1,0 +1,86 @@
+//! The two that are compared, behind one signature.
+
+use crate::Call;
+use model::{Answer, Rules};
+
+/// Something that takes an operation on lent numbers and answers a number and a value.
+pub trait Engine {
+    fn name(&self) -> &str;
+    fn step(&self, state: &mut [u64], room: &mut [u64], call: Call) -> (u64, u64);
+    /// A read, where the engine has it as a function of its own.
+    fn read(&self, state: &mut [u64], room: &mut [u64], cycles: u64, register: u64) -> (u64, u64) {
+        self.step(state, room, Call([5, cycles, register, 0, 0, 0]))
+    }
+}
+
+/// The proved library.
+pub struct Library;
+
+impl Engine for Library {
+    fn name(&self) -> &str {
+        "library"
+    }
+
+    fn step(&self, state: &mut [u64], room: &mut [u64], Call([code, cycles, fields @ ..]): Call) -> (u64, u64) {
+        let answer = face::step(state, room, face::Operation { code, cycles, fields });
+        (answer.number, answer.value)
+    }
+
+    fn read(&self, state: &mut [u64], room: &mut [u64], cycles: u64, register: u64) -> (u64, u64) {
+        let answer = face::read(state, room, cycles, register);
+        (answer.number, answer.value)
+    }
+}
+
+/// The Rust model, or a wrong one.
+pub struct Modelled<R>(pub R);
+
+impl<R: Rules> Engine for Modelled<R> {
+    fn name(&self) -> &str {
+        "model"
+    }
+
+    fn step(&self, state: &mut [u64], room: &mut [u64], call: Call) -> (u64, u64) {
+        let answer: Answer = self.0.step(state, room, call.0);
+        (answer.number(), answer.value())
+    }
+}
+
+/// A state and a room that an engine works on.
+#[derive(Clone, Debug, PartialEq, Eq)]
+pub struct Lent {
+    pub state: Vec<u64>,
+    pub room: Vec<u64>,
+}
+
+impl Lent {
+    /// The first difference of what two engines left and answered, in words.
+    pub fn difference(engines: [&dyn Engine; 2], lent: [&Lent; 2], answers: [(u64, u64); 2]) -> Option<String> {
+        let [left, right] = engines.map(|engine| engine.name());
+        let say = |what: String, l: String, r: String| Some(format!("{what}: {left} {l}, {right} {r}"));
+        if answers[0] != answers[1] {
+            let [l, r] = answers.map(|(number, value)| format!("{number} {value:#x}"));
+            return say("answer".into(), l, r);
+        }
+        if lent[0] == lent[1] {
+            return None;
+        }
+        let areas = [(true, &lent[0].state, &lent[1].state), (false, &lent[0].room, &lent[1].room)];
+        for (is_state, l, r) in areas {
+            if let Some(place) = (0..l.len()).find(|&place| l[place] != r[place]) {
+                let what = if is_state { state_place(place) } else { room_place(place) };
+                return say(what, format!("{:#x}", l[place]), format!("{:#x}", r[place]));
+            }
+        }
+        None
+    }
+}
+
+fn state_place(place: usize) -> String {
+    let names = ["level", "size", "v1p1", "P", "BRBCR_EL1", "BRBCR_EL2", "BRBFCR_EL1", "count", "unknown"];
+    format!("state number {place} ({})", names.get(place).unwrap_or(&"past the state"))
+}
+
+fn room_place(place: usize) -> String {
+    format!("room number {place} ({} of record {})", ["BRBINF", "BRBSRC", "BRBTGT"][place % 3], place / 3)
+}

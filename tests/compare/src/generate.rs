@@ -1,0 +1,437 @@
+//! Random operations, states and rooms. The generator looks at the state, so that most operations are accepted, and
+//! makes each mistake on purpose often enough.
+
+use crate::shares::REASONS;
+use crate::{Call, Random, Single};
+use model::{BranchType, Platform, CONTROL_MASK, EXCEPTION_TYPES, FILTER_MASK, LAST_CODE};
+use std::collections::VecDeque;
+
+const SIZES: [u64; 4] = [8, 16, 32, 64];
+const LIMIT: u64 = 1_048_576;
+
+/// What a sequence is mostly about.
+#[derive(Clone, Copy, Debug, PartialEq, Eq)]
+pub enum Flavour {
+    /// Records: counting and recording on nearly everywhere.
+    Recording,
+    /// Everything that is valid, with levels, platform words and filters moving.
+    Roaming,
+    /// As `Recording`, with cycles at the bounds.
+    Boundary,
+    /// Accesses, with traps and at every level.
+    Accessing,
+    /// Every other operation has a mistake.
+    Careless,
+}
+
+impl Flavour {
+    pub const ALL: [Flavour; 5] =
+        [Flavour::Recording, Flavour::Roaming, Flavour::Boundary, Flavour::Accessing, Flavour::Careless];
+
+    /// How often an operation of each code is made; the last is that of a mistake.
+    fn weights(self) -> [u64; 9] {
+        match self {
+            Flavour::Recording => [2, 600, 150, 150, 10, 40, 30, 4, 10],
+            Flavour::Roaming => [10, 200, 200, 200, 80, 100, 150, 10, 40],
+            Flavour::Boundary => [2, 500, 150, 150, 10, 40, 40, 10, 10],
+            Flavour::Accessing => [5, 30, 100, 150, 60, 350, 200, 80, 20],
+            Flavour::Careless => [40, 100, 100, 100, 50, 60, 60, 20, 500],
+        }
+    }
+}
+
+/// A state's numbers by name, whatever they are.
+struct Seen {
+    level: u64,
+    platform: u64,
+    count: u64,
+}
+
+impl Seen {
+    fn new(state: &[u64]) -> Seen {
+        let number = |place: usize| state.get(place).copied().unwrap_or(0);
+        Seen { level: number(0).min(3), platform: number(3), count: number(7) }
+    }
+
+    fn el2_enabled(&self) -> bool {
+        self.platform & 3 != 0
+    }
+
+    fn can_be_entered(&self, level: u64) -> bool {
+        match level {
+            1 => !(self.platform & 4 != 0 && self.el2_enabled()),
+            2 => self.el2_enabled(),
+            _ => true,
+        }
+    }
+}
+
+/// A source of operations.
+pub struct Generator<'r> {
+    random: &'r mut Random,
+    flavour: Flavour,
+    /// Operations that follow a reset, to set the recorder up.
+    queue: VecDeque<Call>,
+}
+
+impl<'r> Generator<'r> {
+    pub fn new(random: &'r mut Random, flavour: Flavour) -> Generator<'r> {
+        let mut generator = Generator { random, flavour, queue: VecDeque::new() };
+        generator.begin();
+        generator
+    }
+
+    /// Most sequences begin with a reset, some with operations before it.
+    fn begin(&mut self) {
+        while self.random.percent(15) {
+            let code = self.random.below(8);
+            let early = self.valid(code, &Seen::new(&[]));
+            self.queue.push_back(early);
+        }
+        self.queue_reset();
+    }
+
+    /// The next operation in a state.
+    pub fn call(&mut self, state: &[u64]) -> Call {
+        if let Some(call) = self.queue.pop_front() {
+            return call;
+        }
+        let seen = Seen::new(state);
+        let kind = self.weighted();
+        match kind {
+            0 => {
+                self.queue_reset();
+                self.queue.pop_front().expect("a reset was queued")
+            }
+            8 => self.mistaken(&seen),
+            code => self.valid(code, &seen),
+        }
+    }
+
+    fn weighted(&mut self) -> u64 {
+        let weights = self.flavour.weights();
+        let mut drawn = self.random.below(weights.iter().sum());
+        for (kind, weight) in weights.into_iter().enumerate() {
+            if drawn < weight {
+                return kind as u64;
+            }
+            drawn -= weight;
+        }
+        unreachable!("a number below the sum falls on a weight")
+    }
+
+    /// A reset and, mostly, what sets the recorder up and leaves EL3.
+    fn queue_reset(&mut self) {
+        let reset = self.valid(0, &Seen::new(&[]));
+        self.queue.push_back(reset);
+        if self.random.percent(10) {
+            return;
+        }
+        let at_el3 = Seen { level: 3, platform: 0, count: 0 };
+        let platform = self.valid(4, &at_el3);
+        let seen = Seen { platform: platform.0[2], ..at_el3 };
+        let (cr1, cr2, fcr) = (self.control(), self.control(), self.filter());
+        self.queue.push_back(platform);
+        for (register, value) in [(1, cr1), (2, cr2), (3, fcr)] {
+            let cycles = self.cycles(&seen);
+            self.queue.push_back(Call([6, cycles, register, value, 0, 0]));
+        }
+        let leaving = self.valid(3, &seen);
+        self.queue.push_back(leaving);
+    }
+
+    /// An operation of a code that a state mostly accepts.
+    fn valid(&mut self, code: u64, seen: &Seen) -> Call {
+        let code = match code {
+            // What the level does not permit becomes something near it.
+            3 if seen.level == 0 => 2,
+            4 if seen.level != 3 => 5,
+            code => code,
+        };
+        let cycles = self.cycles(seen);
+        let fields = match code {
+            0 => [self.random.one_of(&SIZES), self.random.below(2), self.beyond(), self.beyond()],
+            1 => [self.branch_type(), self.random.below(2), self.address(), self.address()],
+            2 => [self.random.one_of(&EXCEPTION_TYPES), self.exception_level(seen), self.address(), self.address()],
+            3 => [self.return_level(seen), self.random.below(2), self.address(), self.address()],
+            4 => [self.platform(), self.beyond(), self.beyond(), self.beyond()],
+            5 => [self.register(), self.beyond(), self.beyond(), self.beyond()],
+            6 => {
+                let (register, value) = self.write();
+                [register, value, self.beyond(), self.beyond()]
+            }
+            _ => [self.beyond(), self.beyond(), self.beyond(), self.beyond()],
+        };
+        let [a, b, c, d] = fields;
+        Call([code, cycles, a, b, c, d])
+    }
+
+    /// An operation that is mostly refused: an unknown code, a field outside its list, or a level that does not permit.
+    fn mistaken(&mut self, seen: &Seen) -> Call {
+        let code = self.random.below(8);
+        let mut call = self.valid(code, seen);
+        match self.random.below(6) {
+            0 => call.0[0] = LAST_CODE + 1 + self.random.of_length(10),
+            1 => call.0[0] = self.random.number(),
+            2 | 3 => self.spoil_field(&mut call),
+            _ => {
+                // A level of its own choice, permitted or not.
+                let level = self.random.below(4);
+                call = match self.random.below(3) {
+                    0 => Call([2, call.cycles(), self.random.one_of(&EXCEPTION_TYPES), level, 1, 2]),
+                    1 => Call([3, call.cycles(), level, 0, 3, 4]),
+                    _ => Call([4, call.cycles(), self.platform(), 0, 0, 0]),
+                };
+            }
+        }
+        // A second mistake shows which refusal is checked first.
+        if self.random.percent(25) {
+            self.spoil_field(&mut call);
+        }
+        call
+    }
+
+    /// One of the first two fields, in which all lists are.
+    fn spoil_field(&mut self, call: &mut Call) {
+        let field = 2 + self.random.below(2) as usize;
+        call.0[field] = self.odd_number();
+    }
+
+    /// A number that is in few lists.
+    fn odd_number(&mut self) -> u64 {
+        match self.random.below(5) {
+            0 => self.random.below(16),
+            1 => 0x20 + self.random.below(16),
+            2 => self.random.below(160),
+            3 => 1 << self.random.below(64),
+            _ => self.random.number(),
+        }
+    }
+
+    fn cycles(&mut self, seen: &Seen) -> u64 {
+        let near_the_limit = LIMIT.saturating_sub(seen.count);
+        let bounds = [
+            0,
+            1,
+            255,
+            256,
+            257,
+            511,
+            512,
+            513,
+            1023,
+            LIMIT - 2,
+            LIMIT - 1,
+            LIMIT,
+            LIMIT + 1,
+            u64::MAX,
+            u64::MAX - LIMIT,
+            near_the_limit,
+            near_the_limit.saturating_sub(1),
+            near_the_limit + 1,
+        ];
+        let bound_share = if self.flavour == Flavour::Boundary { 60 } else { 3 };
+        if self.random.percent(bound_share) {
+            return self.random.one_of(&bounds);
+        }
+        match self.random.below(20) {
+            0 => self.random.of_length(64),
+            1..=4 => self.random.of_length(20),
+            _ => self.random.below(600),
+        }
+    }
+
+    fn address(&mut self) -> u64 {
+        match self.random.below(8) {
+            0 => self.random.one_of(&[0, 1, u64::MAX, 1 << 63]),
+            1 => self.random.below(0x10000),
+            _ => self.random.number(),
+        }
+    }
+
+    /// A number beyond an operation's own fields, which is not looked at.
+    fn beyond(&mut self) -> u64 {
+        if self.random.percent(50) {
+            0
+        } else {
+            self.random.of_length(64)
+        }
+    }
+
+    fn branch_type(&mut self) -> u64 {
+        self.random.one_of(&BranchType::ALL) as u64
+    }
+
+    fn exception_level(&mut self, seen: &Seen) -> u64 {
+        self.level_of(seen, seen.level.max(1), 3)
+    }
+
+    fn return_level(&mut self, seen: &Seen) -> u64 {
+        self.level_of(seen, 0, seen.level)
+    }
+
+    /// A level that can be entered, from the lowest to the highest.
+    fn level_of(&mut self, seen: &Seen, lowest: u64, highest: u64) -> u64 {
+        loop {
+            let level = lowest + self.random.below(highest - lowest + 1);
+            if seen.can_be_entered(level) || self.random.percent(1) {
+                return level;
+            }
+        }
+    }
+
+    /// A platform word: mostly non-secure with recording allowed, or else any.
+    fn platform(&mut self) -> u64 {
+        if self.random.percent(30) {
+            return self.random.number() & Platform::MASK;
+        }
+        let mut platform = self.random.one_of(&[0x31, 0x31, 0x11, 0x32, 0x33, 0x30]);
+        let rare = if self.flavour == Flavour::Accessing { 40 } else { 15 };
+        for bit in [2, 3, 8] {
+            platform |= u64::from(self.random.percent(rare)) << bit;
+        }
+        platform |= u64::from(self.random.percent(60)) << 6;
+        platform | self.random.number() & 0x3E00
+    }
+
+    /// A value for BRBCR_EL1 or BRBCR_EL2.
+    fn control(&mut self) -> u64 {
+        match self.random.below(20) {
+            0..=8 => CONTROL_MASK,
+            9..=14 => CONTROL_MASK & !(1 << self.random.below(24)),
+            15..=17 => self.random.number() & CONTROL_MASK,
+            18 => self.random.number(),
+            _ => 0,
+        }
+    }
+
+    /// A value for BRBFCR_EL1.
+    fn filter(&mut self) -> u64 {
+        let types = self.random.number() & 0x7E_0000;
+        let filter = match self.random.below(20) {
+            0..=7 => 0x1_0000,
+            8..=10 => 0x7E_0000,
+            11..=13 => 0x1_0000 | types,
+            14..=16 => types,
+            17 => self.random.number() & FILTER_MASK & !0x80,
+            18 => 0x1_0080,
+            _ => self.random.number(),
+        };
+        let bank = if self.random.percent(30) { self.random.below(4) << 28 } else { 0 };
+        filter | bank
+    }
+
+    fn register(&mut self) -> u64 {
+        match self.random.below(10) {
+            0..=3 => self.random.below(4),
+            4..=6 => 32 * (1 + self.random.below(3)) + self.random.below(9),
+            _ => 32 + self.random.below(96),
+        }
+    }
+
+    fn write(&mut self) -> (u64, u64) {
+        match self.random.below(20) {
+            0 => (self.register(), self.random.number()),
+            1..=6 => (1, self.control()),
+            7..=12 => (2, self.control()),
+            _ => (3, self.filter()),
+        }
+    }
+}
+
+/// The length of a sequence: short and long ones alike.
+pub fn length(random: &mut Random) -> usize {
+    1 << (3 + random.below(9))
+}
+
+/// A room for a sequence: mostly large enough for every size.
+pub fn room(random: &mut Random) -> usize {
+    match random.below(10) {
+        0 => random.below(201) as usize,
+        1 => random.one_of(&[23, 24, 25, 47, 48, 95, 96, 97, 191]),
+        2..=5 => 192,
+        _ => 200,
+    }
+}
+
+/// A single call: any room of 0 to 200 numbers, a state that is mostly sound. The second is the reason's number where
+/// it was made unsound.
+pub fn single(random: &mut Random) -> (Single, Option<usize>) {
+    let mut state = sound_state(random);
+    let reason = random.percent(20).then(|| random.below(REASONS as u64) as usize);
+    if let Some(reason) = reason {
+        spoil(random, &mut state, reason);
+        if random.percent(10) {
+            let second = random.below(REASONS as u64) as usize;
+            spoil(random, &mut state, second);
+        }
+    }
+    let room = (0..single_room(random, &state)).map(|_| random.number()).collect();
+    let flavour = random.one_of(&Flavour::ALL);
+    let mut generator = Generator { random, flavour, queue: VecDeque::new() };
+    let call = generator.call(&state);
+    (Single { state, room, call }, reason)
+}
+
+/// Nine sound numbers and up to three past them.
+fn sound_state(random: &mut Random) -> Vec<u64> {
+    let flavour = random.one_of(&Flavour::ALL);
+    let mut generator = Generator { random, flavour, queue: VecDeque::new() };
+    let platform = generator.platform();
+    let (cr1, cr2) = (generator.control() & CONTROL_MASK, generator.control() & CONTROL_MASK);
+    let fcr = generator.filter() & FILTER_MASK;
+    let level = generator.level_of(&Seen { level: 0, platform, count: 0 }, 0, 3);
+    let size = if random.percent(4) { 0 } else { random.one_of(&SIZES) };
+    let count = match random.below(4) {
+        0 => random.one_of(&[0, 255, 256, 511, 513, LIMIT - 1, LIMIT]),
+        _ => random.of_length(20),
+    };
+    let mut state = vec![level, size, random.below(2), platform, cr1, cr2, fcr, count, random.below(2)];
+    state.extend((0..random.below(4)).map(|_| random.number()));
+    state
+}
+
+/// Makes a state unsound for the reason of this number (the order of [`crate::shares`]).
+fn spoil(random: &mut Random, state: &mut Vec<u64>, reason: usize) {
+    if reason == 0 || state.len() < 9 {
+        state.truncate(random.below(9) as usize);
+        return;
+    }
+    let outside = |random: &mut Random, mask: u64| loop {
+        let outside = random.number() & random.number() & random.number() & !mask;
+        if outside != 0 {
+            return outside;
+        }
+    };
+    let above = |random: &mut Random, highest: u64| highest + 1 + random.of_length(62);
+    match reason {
+        1 => state[0] = above(random, 3),
+        2 => state[1] = random.one_of(&[1, 4, 7, 9, 12, 24, 63, 65, 72, 128, 256, 1 << 32, u64::MAX]),
+        3 => state[2] = above(random, 1),
+        4 => state[3] |= if random.percent(30) { 0x80 } else { outside(random, Platform::MASK) },
+        5 => state[4] |= outside(random, CONTROL_MASK),
+        6 => state[5] |= outside(random, CONTROL_MASK),
+        7 => state[6] |= outside(random, FILTER_MASK),
+        8 => {
+            state[0] = 2;
+            state[3] &= !3;
+        }
+        9 => {
+            state[0] = 1;
+            state[3] |= 4 | (1 + random.below(3));
+        }
+        10 => state[7] = above(random, LIMIT),
+        _ => state[8] = above(random, 1),
+    }
+}
+
+/// A room's length: any from 0 to 200, or near what the state needs.
+fn single_room(random: &mut Random, state: &[u64]) -> u64 {
+    let needed = 3 * state.get(1).copied().filter(|&size| size <= 64).unwrap_or(0);
+    match random.below(10) {
+        0 | 1 => random.below(201),
+        2 => needed.saturating_sub(1),
+        3 => needed,
+        _ => needed + random.below(201 - needed),
+    }
+}

@@ -1,0 +1,24 @@
+//! The proved library and the Rust model beside each other: every answer, every state number and every room number is
+//! compared, on sequences from a fresh state and on single calls with any state and room.
+//!
+//! A case that disagrees is shrunk ([`shrink`]) and printed as numbers in document 01's written form.
+
+pub mod call;
+pub mod demand3;
+pub mod engine;
+pub mod generate;
+pub mod random;
+pub mod run;
+pub mod seed;
+pub mod sequence;
+pub mod shares;
+pub mod shrink;
+pub mod single;
+
+pub use call::Call;
+pub use engine::{Engine, Library, Modelled};
+pub use random::Random;
+pub use sequence::Sequence;
+pub use shares::Shares;
+pub use shrink::Case;
+pub use single::Single;

@@ -1,0 +1,71 @@
+//! The library and the model agree, and the library keeps demand 3. `BRB_SEED` repeats a run.
+
+use compare::seed::{self, say};
+use compare::{demand3, run, Engine, Library, Modelled, Random, Shares};
+use model::Document01;
+
+const SEQUENCE_OPERATIONS: u64 = 8_000_000;
+const SINGLE_CALLS: u64 = 3_000_000;
+const DEMAND_3_OPERATIONS: u64 = 3_000_000;
+/// Fewer cases of a class than this prove nothing.
+const LEAST: u64 = 1_000;
+
+const ENGINES: [&dyn Engine; 2] = [&Library, &Modelled(Document01)];
+
+fn report(test: &str, agreed: u64, shares: &Shares, except: &[&str]) {
+    say(&format!("{test}: {agreed} operations agreed\n{shares}"));
+    let rare = shares.rare(LEAST, except);
+    assert!(rare.is_empty(), "met fewer than {LEAST} times: {rare:#?}");
+}
+
+#[test]
+fn sequences_from_a_fresh_state() {
+    let seed = seed::of_test("sequences", seed::from_clock);
+    let mut shares = Shares::default();
+    match run::sequences(ENGINES, &mut Random::new(seed), SEQUENCE_OPERATIONS, &mut shares) {
+        // From a fresh state no state is ever unsound.
+        Ok(agreed) => report("sequences", agreed, &shares, &["refused 7", "unsound states"]),
+        Err(disagreement) => panic!("seed {seed}: {disagreement}"),
+    }
+}
+
+#[test]
+fn single_calls_on_any_state() {
+    let seed = seed::of_test("single calls", seed::from_clock);
+    let mut shares = Shares::default();
+    match run::singles(ENGINES, &mut Random::new(seed), SINGLE_CALLS, &mut shares) {
+        Ok(agreed) => report("single calls", agreed, &shares, &[]),
+        Err(disagreement) => panic!("seed {seed}: {disagreement}"),
+    }
+}
+
+#[test]
+fn demand_3_by_exact_bookkeeping() {
+    let seed = seed::of_test("demand 3", seed::from_clock);
+    match demand3::explore(&Library, &mut Random::new(seed), DEMAND_3_OPERATIONS) {
+        Ok(stretches) => {
+            say(&format!("demand 3: {DEMAND_3_OPERATIONS} operations, {stretches} stretches of records kept it"));
+            assert!(stretches >= LEAST, "only {stretches} stretches of counted records");
+        }
+        Err((sequence, how)) => panic!("seed {seed}: demand 3 is broken: {how}\n  {sequence}"),
+    }
+}
+
+#[test]
+fn every_count_and_encoding() {
+    let seed = seed::of_test("counts", seed::from_clock);
+    let mut random = Random::new(seed);
+    let beyond: Vec<u64> = (0..1_000_000).map(|_| random.of_length(64)).chain([u64::MAX]).collect();
+    for count in (0..1_100_000).chain(beyond.iter().copied()) {
+        assert_eq!(face::count_encode(count), model::count::encode(count), "count {count}");
+    }
+    for cc in (0..0x2_0000).chain(beyond) {
+        let expected = match model::count::decode(cc) {
+            Some(model::count::Count::Known(count)) => (0, count),
+            Some(model::count::Count::Exceeded) => (0, 1_048_576),
+            None => (4, 0),
+        };
+        let answer = face::count_decode(cc);
+        assert_eq!((answer.number, answer.value), expected, "encoding {cc:#x}");
+    }
+}

@@ -1,0 +1,466 @@
+//! The comparison is tried on wrong models, each with one planted error: it must find the error and shrink the case to a
+//! few operations. Document 01's "easy errors" come first. `-- --nocapture` shows each shrunk case.
+
+use compare::seed::{self, say};
+use compare::{demand3, run, Engine, Library, Modelled, Random, Shares};
+use model::{
+    count, room, Access, Answer, BranchType, Document01, Event, Level, Operation, Outcome, Platform, Record, Refusal,
+    Register, Rules, Shape, State,
+};
+
+/// How many operations of each kind an error may hide from.
+const OPERATIONS: u64 = 1_000_000;
+/// A shrunk case has at most so many operations.
+const LONGEST: usize = 12;
+/// These tests are about the comparison itself: they repeat unless told otherwise.
+const SEED: u64 = 1;
+
+/// Wrong models, each by the words that say what is wrong and the rules that it changes.
+macro_rules! planted {
+    ($(($words:literal, $name:ident { $($rule:tt)* }))*) => {
+        $(
+            struct $name;
+            impl Rules for $name { $($rule)* }
+        )*
+        const PLANTED: &[(&str, &dyn Engine)] = &[$(($words, &Modelled($name))),*];
+    };
+}
+
+fn bit(number: u64, n: u32) -> bool {
+    number >> n & 1 == 1
+}
+
+/// A refusal that `first` finds before the others.
+fn refused_first(
+    state: &[u64],
+    room_numbers: usize,
+    numbers: [u64; 6],
+    first: impl FnOnce(&State) -> Option<Refusal>,
+) -> Result<(State, Operation), Refusal> {
+    match Document01.sound(state).and_then(|state| first(&state)) {
+        Some(refusal) => Err(refusal),
+        None => Document01.accept(state, room_numbers, numbers),
+    }
+}
+
+planted! {
+    ("EnI read as \"nothing unless chosen\"", NothingUnlessChosen {
+        fn chosen(&self, fcr: u64, kind: BranchType) -> bool {
+            bit(fcr, kind.filter_bit())
+        }
+    })
+    ("a half-source record has its target level", HalfSourceLevel {
+        fn shown_level(&self, event: &Event, _: Shape) -> u64 {
+            event.to.number()
+        }
+    })
+    ("counts are rounded to nearest", RoundedToNearest {
+        fn encode(&self, count: u64) -> u64 {
+            let exponent = count::encode(count) / 256;
+            let half = if exponent > 1 { 1 << (exponent - 2) } else { 0 };
+            count::encode(count.min(count::LARGEST - half) + half)
+        }
+    })
+    ("an exception's control is taken from the level left", ControlFromLevelLeft {
+        fn exception_control(&self, event: &Event) -> Level {
+            event.from
+        }
+    })
+    ("BANK is used without the size", BankWithoutSize {
+        fn shown_record(&self, state: &State, m: usize) -> Option<usize> {
+            Some(m + 32 * state.bank())
+        }
+    })
+    ("a return's control is taken from the target level", ReturnControlFromTarget {
+        fn return_control(&self, event: &Event) -> Level {
+            event.to
+        }
+    })
+    ("BANK is not looked at", NoBank {
+        fn shown_record(&self, state: &State, m: usize) -> Option<usize> {
+            (m < state.size).then_some(m)
+        }
+    })
+    ("a refused operation's cycles count", RefusedCyclesCount {
+        fn step(&self, state: &mut [u64], room: &mut [u64], numbers: [u64; 6]) -> Answer {
+            let answer = Document01.step(state, room, numbers);
+            if let (Answer::Refused(_), Some(mut after)) = (answer, Document01.sound(state)) {
+                after.count_on(numbers[1]);
+                after.store(state);
+            }
+            answer
+        }
+    })
+    ("refusals 2 and 3 are swapped", Swapped23 {
+        fn accept(&self, state: &[u64], room: usize, numbers: [u64; 6]) -> Result<(State, Operation), Refusal> {
+            refused_first(state, room, numbers, |s| (s.size == 0 && numbers[0] != 0).then_some(Refusal::NotReset))
+        }
+    })
+    ("refusals 3 and 4 are swapped", Swapped34 {
+        fn accept(&self, state: &[u64], room: usize, numbers: [u64; 6]) -> Result<(State, Operation), Refusal> {
+            let [code, _, fields @ ..] = numbers;
+            let outside = code <= 7 && Document01.operation(code, fields).is_none();
+            refused_first(state, room, numbers, |_| outside.then_some(Refusal::OutsideList))
+        }
+    })
+    ("refusals 4 and 5 are swapped for exceptions", Swapped45 {
+        fn accept(&self, state: &[u64], room: usize, numbers: [u64; 6]) -> Result<(State, Operation), Refusal> {
+            let [code, _, _, b, c, d] = numbers;
+            let listed = if code == 2 { Document01.operation(2, [0x22, b, c, d]) } else { None };
+            refused_first(state, room, numbers, |s| {
+                let forbidden = s.size != 0 && listed.is_some_and(|operation| !Document01.permits(s, &operation));
+                forbidden.then_some(Refusal::NotPermitted)
+            })
+        }
+    })
+    ("refusals 4 and 6 are swapped for resets", Swapped46 {
+        fn accept(&self, state: &[u64], room: usize, numbers: [u64; 6]) -> Result<(State, Operation), Refusal> {
+            let short = numbers[0] == 0 && matches!(numbers[2], 8 | 16 | 32 | 64) && room < 3 * numbers[2] as usize;
+            refused_first(state, room, numbers, |_| short.then_some(Refusal::RoomTooShort))
+        }
+    })
+    ("refusals 5 and 6 are swapped", Swapped56 {
+        fn accept(&self, state: &[u64], room: usize, numbers: [u64; 6]) -> Result<(State, Operation), Refusal> {
+            match Document01.accept(state, room, numbers) {
+                Err(Refusal::NotPermitted) if room < 3 * state[1] as usize => Err(Refusal::RoomTooShort),
+                other => other,
+            }
+        }
+    })
+    ("refusals 7 and 2 are swapped", Swapped72 {
+        fn accept(&self, state: &[u64], room: usize, numbers: [u64; 6]) -> Result<(State, Operation), Refusal> {
+            if numbers[0] > 7 {
+                return Err(Refusal::UnknownCode);
+            }
+            Document01.accept(state, room, numbers)
+        }
+    })
+    ("refusal 6 judges a reset by the size before as well", SizeBefore {
+        fn room_needed(&self, state: &State, operation: &Operation) -> usize {
+            Document01.room_needed(state, operation).max(room::needed(state.size))
+        }
+    })
+    ("refusal 6 leaves out operations that touch no record", RoomNotNeeded {
+        fn room_needed(&self, state: &State, operation: &Operation) -> usize {
+            match operation {
+                Operation::Platform(_) | Operation::Write(..) => 0,
+                _ => Document01.room_needed(state, operation),
+            }
+        }
+    })
+    ("an exception to its own level is refused", SameLevelRefused {
+        fn permits(&self, state: &State, operation: &Operation) -> bool {
+            let same = matches!(operation, Operation::Exception { to, .. } if *to == state.level);
+            !same && Document01.permits(state, operation)
+        }
+    })
+    ("a platform word is accepted at EL2", PlatformAtEl2 {
+        fn permits(&self, state: &State, operation: &Operation) -> bool {
+            matches!(operation, Operation::Platform(_)) && state.level == Level::EL2
+                || Document01.permits(state, operation)
+        }
+    })
+    ("level 1 can be entered with TGE", Level1WithTge {
+        fn can_be_entered(&self, platform: Platform, level: Level) -> bool {
+            level == Level::EL1 || Document01.can_be_entered(platform, level)
+        }
+    })
+    ("a write of register 0 is refused", WriteOf0Refused {
+        fn operation(&self, code: u64, fields: [u64; 4]) -> Option<Operation> {
+            let written = code == 6 && fields[0] == 0;
+            if written { None } else { Document01.operation(code, fields) }
+        }
+    })
+    ("exception type 0x25 is in the list", Type25 {
+        fn operation(&self, code: u64, [a, b, c, d]: [u64; 4]) -> Option<Operation> {
+            let a = if code == 2 && a == 0x25 { 0x24 } else { a };
+            Document01.operation(code, [a, b, c, d])
+        }
+    })
+    ("a count of 1,048,576 is not sound", LargestCountUnsound {
+        fn sound(&self, numbers: &[u64]) -> Option<State> {
+            Document01.sound(numbers).filter(|state| state.count < count::LIMIT)
+        }
+    })
+    ("the unknown flag is not checked", UnknownFlagUnchecked {
+        fn sound(&self, numbers: &[u64]) -> Option<State> {
+            let mut numbers = numbers.to_vec();
+            if let Some(unknown) = numbers.get_mut(8) {
+                *unknown = (*unknown).min(1);
+            }
+            Document01.sound(&numbers)
+        }
+    })
+    ("a reset's cycles count", ResetCyclesCount {
+        fn perform(&self, state: &mut State, room: &mut [u64], operation: Operation, cycles: u64) -> Answer {
+            let answer = Document01.perform(state, room, operation, cycles);
+            if matches!(operation, Operation::Reset { .. }) {
+                state.count_on(cycles);
+            }
+            answer
+        }
+    })
+    ("the first count after a reset is known", KnownAfterReset {
+        fn reset(&self, state: &mut State, room: &mut [u64], size: usize, v1p1: bool) {
+            Document01.reset(state, room, size, v1p1);
+            state.unknown = false;
+        }
+    })
+    ("a reset zeroes the whole room", WholeRoomZeroed {
+        fn reset(&self, state: &mut State, room: &mut [u64], size: usize, v1p1: bool) {
+            Document01.reset(state, room, size, v1p1);
+            room.fill(0);
+        }
+    })
+    ("the running count stops at 1,048,575", StopsEarly {
+        fn pass(&self, state: &mut State, cycles: u64) {
+            Document01.pass(state, cycles);
+            state.count = state.count.min(count::LARGEST);
+        }
+    })
+    ("the running count wraps at 2^64", Wraps {
+        fn pass(&self, state: &mut State, cycles: u64) {
+            let count = state.count.wrapping_add(cycles).min(count::LIMIT);
+            Document01.pass(state, cycles);
+            state.count = count;
+        }
+    })
+    ("PAUSED stops the count", PausedStopsCount {
+        fn pass(&self, state: &mut State, cycles: u64) {
+            Document01.pass(state, if state.paused() { 0 } else { cycles });
+        }
+    })
+    ("a prohibited level is no occasion", ProhibitedNoOccasion {
+        fn pass(&self, state: &mut State, cycles: u64) {
+            state.count_on(cycles);
+        }
+    })
+    ("accesses that are not performed pass no cycles", NotPerformedNoCycles {
+        fn perform(&self, state: &mut State, room: &mut [u64], operation: Operation, cycles: u64) -> Answer {
+            let before = *state;
+            let answer = Document01.perform(state, room, operation, cycles);
+            if matches!(answer, Answer::Undefined | Answer::Trap2 | Answer::Trap3) {
+                *state = before;
+            }
+            answer
+        }
+    })
+    ("turning counting on is no occasion", CountingOnNoOccasion {
+        fn write_is_occasion(&self, before: &State, after: &State) -> bool {
+            before.paused() && !after.paused()
+        }
+    })
+    ("clearing PAUSED is no occasion", PausedClearedNoOccasion {
+        fn write_is_occasion(&self, before: &State, after: &State) -> bool {
+            after.counting() && !before.counting()
+        }
+    })
+    ("writing the same value again is an occasion", SameValueOccasion {
+        fn write_is_occasion(&self, before: &State, after: &State) -> bool {
+            after.counting() && before.counting() || Document01.write_is_occasion(before, after)
+        }
+    })
+    ("a record made while counting is off keeps its occasions", OccasionsKept {
+        fn restart_count(&self, state: &mut State) {
+            state.count = 0;
+            state.unknown &= !state.counting();
+        }
+    })
+    ("an unknown count is shown", UnknownCountShown {
+        fn record(&self, state: &State, event: &Event, shape: Shape) -> Record {
+            let [inf, source, target] = Document01.record(state, event, shape);
+            [inf | count::encode(state.count) << 32, source, target]
+        }
+    })
+    ("an exceeded count is shown as the largest", ExceededAsLargest {
+        fn encode(&self, count: u64) -> u64 {
+            count::encode(count.min(count::LARGEST))
+        }
+    })
+    ("BRB IALL restarts the count", IallRestarts {
+        fn invalidate_all(&self, state: &mut State, room: &mut [u64]) {
+            Document01.invalidate_all(state, room);
+            state.count = 0;
+        }
+    })
+    ("BRB IALL makes the next count unknown", IallOccasion {
+        fn invalidate_all(&self, state: &mut State, room: &mut [u64]) {
+            Document01.invalidate_all(state, room);
+            state.unknown = true;
+        }
+    })
+    ("SBRBE 1 prohibits whatever NS is", Sbrbe1Prohibits {
+        fn prohibited(&self, state: &State, level: Level) -> bool {
+            level != Level::EL3 && state.platform.sbrbe() == 1 || Document01.prohibited(state, level)
+        }
+    })
+    ("EL3 is recorded without v1p1", El3WithoutV1p1 {
+        fn prohibited(&self, state: &State, level: Level) -> bool {
+            match level {
+                Level::EL3 => !state.platform.el3_recording(),
+                _ => Document01.prohibited(state, level),
+            }
+        }
+    })
+    ("TGE moves EL0's control even with EL2 not enabled", TgeAlone {
+        fn enabled_below_el3(&self, state: &State, level: Level) -> bool {
+            match level {
+                Level::EL0 if state.platform.tge() => bit(state.cr2, 0),
+                _ => Document01.enabled_below_el3(state, level),
+            }
+        }
+    })
+    ("a half-target record shows its source", HalfTargetSource {
+        fn shown_source(&self, event: &Event, _: Shape) -> u64 {
+            event.source
+        }
+    })
+    ("a half-source record shows its target", HalfSourceTarget {
+        fn shown_target(&self, event: &Event, _: Shape) -> u64 {
+            event.target
+        }
+    })
+    ("a half-target record shows MPRED", HalfTargetMisprediction {
+        fn shown_misprediction(&self, state: &State, event: &Event, _: Shape) -> bool {
+            event.mispredicted && state.shows_misprediction()
+        }
+    })
+    ("MPRED needs bit 4 of BRBCR_EL1 alone", MispredictionByOne {
+        fn shown_misprediction(&self, state: &State, event: &Event, shape: Shape) -> bool {
+            event.mispredicted && shape.has_source() && bit(state.cr1, 4)
+        }
+    })
+    ("PAUSED is not looked at", PausedRecords {
+        fn shape(&self, state: &State, event: &Event) -> Option<Shape> {
+            let running = State { fcr: state.fcr & !0x80, ..*state };
+            Document01.shape(&running, event)
+        }
+    })
+    ("the trap to EL3 comes before the trap to EL2", Trap3First {
+        fn outcome(&self, state: &State, access: Access) -> Outcome {
+            match Document01.outcome(state, access) {
+                Outcome::Trap2 if self.traps_to_el3(state) => Outcome::Trap3,
+                outcome => outcome,
+            }
+        }
+    })
+    ("the trap to EL2 comes before an undefined write", Trap2BeforeUndefined {
+        fn outcome(&self, state: &State, access: Access) -> Outcome {
+            if self.traps_to_el2(state, access) { Outcome::Trap2 } else { Document01.outcome(state, access) }
+        }
+    })
+    ("BRB IALL is performed at EL0", IallAtEl0 {
+        fn outcome(&self, state: &State, access: Access) -> Outcome {
+            match (state.level, access) {
+                (Level::EL0, Access::InvalidateAll) => Outcome::Performed,
+                _ => Document01.outcome(state, access),
+            }
+        }
+    })
+    ("writes trap by the n-bit of reads", WriteTrapsAsRead {
+        fn n_bit(&self, platform: Platform, access: Access) -> bool {
+            match access {
+                Access::Write(register) => Document01.n_bit(platform, Access::Read(register)),
+                _ => Document01.n_bit(platform, access),
+            }
+        }
+    })
+    ("NS 1 with SBRBE 2 does not trap", Sbrbe2NotTrapped {
+        fn traps_to_el3(&self, state: &State) -> bool {
+            Document01.traps_to_el3(state) && !(state.platform.ns() && state.platform.sbrbe() == 2)
+        }
+    })
+    ("E2H is not looked at", NoE2h {
+        fn meant(&self, _: &State, register: Register) -> Register {
+            register
+        }
+    })
+    ("E2H holds at EL3 too", E2hAtEl3 {
+        fn meant(&self, state: &State, register: Register) -> Register {
+            match register {
+                Register::Cr1 if state.level >= Level::EL2 && state.platform.e2h() => Register::Cr2,
+                _ => register,
+            }
+        }
+    })
+    ("writes keep bit 2 of the control registers", Bit2Kept {
+        fn kept(&self, register: Register, value: u64) -> u64 {
+            let more = if register == Register::Fcr { 0 } else { value & 4 };
+            Document01.kept(register, value) | more
+        }
+    })
+}
+
+/// The oldest record of a full buffer is kept.
+struct OldestKept;
+
+impl Rules for OldestKept {
+    fn happen(&self, state: &mut State, room: &mut [u64], event: Event) {
+        let oldest = room::needed(state.size) - 3..room::needed(state.size);
+        let kept = room[oldest.clone()].to_vec();
+        Document01.happen(state, room, event);
+        if kept[0] != 0 {
+            room[oldest].copy_from_slice(&kept);
+        }
+    }
+}
+
+/// The first disagreement of the library with a wrong model: on sequences, or else on single calls.
+fn found(wrong: &dyn Engine, seed: u64) -> Option<run::Disagreement> {
+    let engines: [&dyn Engine; 2] = [&Library, wrong];
+    let mut shares = Shares::default();
+    let in_sequences = run::sequences(engines, &mut Random::new(seed), OPERATIONS, &mut shares).err();
+    in_sequences.or_else(|| run::singles(engines, &mut Random::new(seed), OPERATIONS, &mut shares).err())
+}
+
+#[test]
+fn each_planted_error_is_found_and_shrunk() {
+    let seed = seed::of_test("planted errors", || SEED);
+    let (mut missed, mut longest) = (Vec::new(), 0);
+    for (words, wrong) in PLANTED {
+        match found(*wrong, seed) {
+            Some(disagreement) => {
+                println!("planted: {words}\n  {disagreement}");
+                longest = longest.max(disagreement.operations);
+                if disagreement.operations > LONGEST {
+                    missed.push(format!("{words}: shrunk to {} operations only", disagreement.operations));
+                }
+            }
+            None => missed.push(format!("{words}: not found")),
+        }
+    }
+    assert!(missed.is_empty(), "{missed:#?}");
+    say(&format!("planted errors: all {} found, shrunk to at most {longest} operations", PLANTED.len()));
+}
+
+/// This one shows no sooner than with the ninth record of eight, so that its case cannot be as short.
+#[test]
+fn an_error_in_a_full_buffer_is_found() {
+    let seed = seed::of_test("planted error in a full buffer", || SEED);
+    let disagreement = found(&Modelled(OldestKept), seed).expect("the error is found");
+    println!("planted: the oldest record of a full buffer is kept\n  {disagreement}");
+    assert!(disagreement.operations <= LONGEST + 9, "{disagreement}");
+}
+
+/// Demand 3 is broken by these, and the bookkeeping sees it without any model beside it.
+#[test]
+fn demand_3_fails_where_counts_are_wrong() {
+    let seed = seed::of_test("planted errors of demand 3", || SEED);
+    let wrong: [(&str, &dyn Engine); 6] = [
+        ("counts are rounded to nearest", &Modelled(RoundedToNearest)),
+        ("a refused operation's cycles count", &Modelled(RefusedCyclesCount)),
+        ("accesses that are not performed pass no cycles", &Modelled(NotPerformedNoCycles)),
+        ("the running count stops at 1,048,575", &Modelled(StopsEarly)),
+        ("the running count wraps at 2^64", &Modelled(Wraps)),
+        ("an exceeded count is shown as the largest", &Modelled(ExceededAsLargest)),
+    ];
+    let mut missed = Vec::new();
+    for (words, engine) in wrong {
+        match demand3::explore(engine, &mut Random::new(seed), OPERATIONS) {
+            Ok(stretches) => missed.push(format!("{words}: {stretches} stretches kept demand 3")),
+            Err((sequence, how)) => println!("demand 3 with: {words}\n  {how}\n  {sequence}"),
+        }
+    }
+    assert!(missed.is_empty(), "{missed:#?}");
+    say(&format!("planted errors of demand 3: all {} found", wrong.len()));
+}

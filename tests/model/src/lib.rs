@@ -1,0 +1,50 @@
+//! Document 01 a second time, in plain Rust: one processor's branch record buffer, operation by operation.
+//!
+//! It is written from document 01 and `docs/DECISIONS.md` alone, so that the proved library has something independent to
+//! be compared with. [`Rules`] holds one method a rule, in the document's order; [`Document01`] is the document as it
+//! stands. A test that wants to know whether an error would be found overrides one method.
+//!
+//! ```
+//! use model::{Answer, Document01, Rules, State};
+//!
+//! let (mut state, mut room) = ([0; State::NUMBERS], [0; 24]);
+//! assert_eq!(Document01.step(&mut state, &mut room, [0, 0, 8, 0, 0, 0]), Answer::Done);
+//! assert_eq!(Document01.step(&mut state, &mut room, [5, 0, 0, 0, 0, 0]), Answer::Read(0x5008));
+//! ```
+
+mod access;
+mod answer;
+pub mod bank;
+pub mod count;
+mod event;
+mod level;
+mod operation;
+mod platform;
+pub mod recording;
+pub mod replay;
+pub mod room;
+mod rules;
+mod state;
+
+pub use access::{Access, Outcome};
+pub use answer::{Answer, Refusal};
+pub use event::{Cause, Event, Record, Shape};
+pub use level::Level;
+pub use operation::{exception_type, own_fields, BranchType, Operation, Part, Register, EXCEPTION_TYPES, LAST_CODE};
+pub use platform::Platform;
+pub use rules::{Document01, Rules};
+pub use state::{buffer_size, State, CONTROL_MASK, FILTER_MASK};
+
+/// Whether bit `n` of a number is 1.
+pub(crate) fn bit(number: u64, n: u32) -> bool {
+    number >> n & 1 == 1
+}
+
+/// A flag: 0 or 1, nothing else.
+pub(crate) fn flag(number: u64) -> Option<bool> {
+    match number {
+        0 => Some(false),
+        1 => Some(true),
+        _ => None,
+    }
+}

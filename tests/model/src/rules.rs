@@ -1,0 +1,437 @@
+//! The rules of document 01, one method a rule, in the document's order.
+
+use crate::{
+    bit, buffer_size, count, exception_type, flag, room, Access, Answer, BranchType, Cause, Event, Level, Operation,
+    Outcome, Platform, Record, Refusal, Register, Shape, State, CONTROL_MASK, FILTER_MASK, LAST_CODE,
+};
+
+/// Document 01 as it stands.
+#[derive(Clone, Copy, Debug, Default)]
+pub struct Document01;
+
+impl Rules for Document01 {}
+
+/// The rules. Each method's own body is document 01's rule; an implementation that overrides one is a wrong model, made
+/// to see whether a comparison finds the error.
+pub trait Rules {
+    // ---------------------------------------------------------------------------------------------------------------
+    // Operations
+
+    /// One operation on lent numbers: its code, its cycles and four fields.
+    fn step(&self, state: &mut [u64], room: &mut [u64], numbers: [u64; 6]) -> Answer {
+        match self.accept(state, room.len(), numbers) {
+            Err(refusal) => Answer::Refused(refusal),
+            Ok((mut after, operation)) => {
+                let answer = self.perform(&mut after, room, operation, numbers[1]);
+                after.store(state);
+                answer
+            }
+        }
+    }
+
+    /// An accepted operation.
+    fn perform(&self, state: &mut State, room: &mut [u64], operation: Operation, cycles: u64) -> Answer {
+        if !matches!(operation, Operation::Reset { .. }) {
+            self.pass(state, cycles);
+        }
+        match operation {
+            Operation::Reset { size, v1p1 } => {
+                self.reset(state, room, size, v1p1);
+                Answer::Done
+            }
+            Operation::Branch { .. } | Operation::Exception { .. } | Operation::Return { .. } => {
+                if let Some(event) = operation.event(state.level) {
+                    self.happen(state, room, event);
+                }
+                Answer::Done
+            }
+            Operation::Platform(platform) => {
+                state.platform = platform;
+                Answer::Done
+            }
+            Operation::Read(register) => self
+                .outcome(state, Access::Read(register))
+                .or_else(|| Answer::Read(self.read(state, room, self.meant(state, register)))),
+            Operation::Write(register, value) => self.outcome(state, Access::Write(register)).or_else(|| {
+                self.write(state, self.meant(state, register), value);
+                Answer::Done
+            }),
+            Operation::InvalidateAll => self.outcome(state, Access::InvalidateAll).or_else(|| {
+                self.invalidate_all(state, room);
+                Answer::Done
+            }),
+        }
+    }
+
+    /// "Level 3; P, all registers and the running count 0, the reset's own cycles dropped; every record zero; size and
+    /// v1p1 from its fields." No record was made since: the next count is unknown.
+    fn reset(&self, state: &mut State, room: &mut [u64], size: usize, v1p1: bool) {
+        *state = State {
+            level: Level::EL3,
+            size,
+            v1p1,
+            platform: Platform::default(),
+            cr1: 0,
+            cr2: 0,
+            fcr: 0,
+            count: 0,
+            unknown: true,
+        };
+        room::clear(room, size);
+    }
+
+    // ---------------------------------------------------------------------------------------------------------------
+    // Refusal numbers, in order of checking: 7, 2, 3, 4, 5, 6
+
+    fn accept(&self, state: &[u64], room_numbers: usize, numbers: [u64; 6]) -> Result<(State, Operation), Refusal> {
+        let [code, _, fields @ ..] = numbers;
+        let state = self.sound(state).ok_or(Refusal::NotSound)?;
+        if code > LAST_CODE {
+            return Err(Refusal::UnknownCode);
+        }
+        if state.size == 0 && code != 0 {
+            return Err(Refusal::NotReset);
+        }
+        let operation = self.operation(code, fields).ok_or(Refusal::OutsideList)?;
+        if !self.permits(&state, &operation) {
+            return Err(Refusal::NotPermitted);
+        }
+        if room_numbers < self.room_needed(&state, &operation) {
+            return Err(Refusal::RoomTooShort);
+        }
+        Ok((state, operation))
+    }
+
+    /// 7: the state in these numbers, none where it is not sound.
+    fn sound(&self, numbers: &[u64]) -> Option<State> {
+        let &[level, size, v1p1, platform, cr1, cr2, fcr, count, unknown, ..] = numbers else { return None };
+        let state = State {
+            level: Level::from_number(level)?,
+            size: if size == 0 { 0 } else { buffer_size(size)? },
+            v1p1: flag(v1p1)?,
+            platform: Platform::from_number(platform)?,
+            cr1: (cr1 & !CONTROL_MASK == 0).then_some(cr1)?,
+            cr2: (cr2 & !CONTROL_MASK == 0).then_some(cr2)?,
+            fcr: (fcr & !FILTER_MASK == 0).then_some(fcr)?,
+            count: (count <= count::LIMIT).then_some(count)?,
+            unknown: flag(unknown)?,
+        };
+        self.can_be_entered(state.platform, state.level).then_some(state)
+    }
+
+    /// Level 2 is there where EL2 is enabled, level 1 unless TGE and EL2 is enabled (refusals 7 and 5).
+    fn can_be_entered(&self, platform: Platform, level: Level) -> bool {
+        match level {
+            Level::EL1 => !(platform.tge() && platform.el2_enabled()),
+            Level::EL2 => platform.el2_enabled(),
+            Level::EL0 | Level::EL3 => true,
+        }
+    }
+
+    /// 4: the operation of this code and these fields, none where one of its own fields is outside its list.
+    fn operation(&self, code: u64, [a, b, c, d]: [u64; 4]) -> Option<Operation> {
+        let operation = match code {
+            0 => Operation::Reset { size: buffer_size(a)?, v1p1: flag(b)? },
+            1 => {
+                let kind = BranchType::from_number(a)?;
+                Operation::Branch { kind, mispredicted: flag(b)?, source: c, target: d }
+            }
+            2 => {
+                let kind = exception_type(a)?;
+                Operation::Exception { kind, to: Level::from_number(b)?, source: c, target: d }
+            }
+            3 => {
+                let to = Level::from_number(a)?;
+                Operation::Return { to, mispredicted: flag(b)?, source: c, target: d }
+            }
+            4 => Operation::Platform(Platform::from_number(a)?),
+            5 => Operation::Read(Register::from_number(a)?),
+            6 => Operation::Write(Register::from_number(a)?, b),
+            7 => Operation::InvalidateAll,
+            _ => return None,
+        };
+        Some(operation)
+    }
+
+    /// 5: whether the level permits the operation.
+    fn permits(&self, state: &State, operation: &Operation) -> bool {
+        match *operation {
+            Operation::Exception { to, .. } => {
+                to >= state.level && to != Level::EL0 && self.can_be_entered(state.platform, to)
+            }
+            Operation::Return { to, .. } => {
+                state.level != Level::EL0 && to <= state.level && self.can_be_entered(state.platform, to)
+            }
+            Operation::Platform(_) => state.level == Level::EL3,
+            _ => true,
+        }
+    }
+
+    /// 6: "three 64-bit numbers a record, for the size after the operation".
+    fn room_needed(&self, state: &State, operation: &Operation) -> usize {
+        match *operation {
+            Operation::Reset { size, .. } => room::needed(size),
+            _ => room::needed(state.size),
+        }
+    }
+
+    // ---------------------------------------------------------------------------------------------------------------
+    // Where recording is prohibited
+
+    fn prohibited(&self, state: &State, level: Level) -> bool {
+        if level == Level::EL3 {
+            return !state.records_el3();
+        }
+        let platform = state.platform;
+        let by_el3 = match platform.sbrbe() {
+            0 => true,
+            1 => !platform.ns(),
+            _ => false,
+        };
+        by_el3 || !self.enabled_below_el3(state, level)
+    }
+
+    /// The control of a level below EL3: "a 0 prohibits".
+    fn enabled_below_el3(&self, state: &State, level: Level) -> bool {
+        match level {
+            Level::EL0 if state.platform.tge() && state.platform.el2_enabled() => bit(state.cr2, 0),
+            Level::EL0 => bit(state.cr1, 0),
+            Level::EL1 => bit(state.cr1, 1),
+            Level::EL2 | Level::EL3 => bit(state.cr2, 1),
+        }
+    }
+
+    // ---------------------------------------------------------------------------------------------------------------
+    // Which events become records
+
+    /// An accepted event: its record, if it becomes one, and the move to its level.
+    fn happen(&self, state: &mut State, room: &mut [u64], event: Event) {
+        if let Some(shape) = self.shape(state, &event) {
+            let record = self.record(state, &event, shape);
+            room::push(room, state.size, record);
+            self.restart_count(state);
+        }
+        state.level = event.to;
+    }
+
+    /// Which sides the event's record shows; none where it becomes no record.
+    fn shape(&self, state: &State, event: &Event) -> Option<Shape> {
+        if state.paused() || !self.wanted(state, event) {
+            return None;
+        }
+        match (self.prohibited(state, event.from), self.prohibited(state, event.to)) {
+            (true, true) => None,
+            (true, false) => Some(Shape::HalfTarget),
+            (false, true) => Some(Shape::HalfSource),
+            (false, false) => Some(Shape::Full),
+        }
+    }
+
+    /// Whether the filter or the control lets an event of this cause become a record.
+    fn wanted(&self, state: &State, event: &Event) -> bool {
+        match event.cause {
+            Cause::Branch(kind) => self.chosen(state.fcr, kind),
+            Cause::Exception(_) => self.controlled(state, self.exception_control(event), 23),
+            Cause::Return => self.controlled(state, self.return_control(event), 22),
+        }
+    }
+
+    /// "Recorded exactly when the type's filter bit differs from EnI (bit 16)."
+    fn chosen(&self, fcr: u64, kind: BranchType) -> bool {
+        bit(fcr, kind.filter_bit()) != bit(fcr, 16)
+    }
+
+    /// "The control is by target level for exceptions".
+    fn exception_control(&self, event: &Event) -> Level {
+        event.to
+    }
+
+    /// "By the level left for returns".
+    fn return_control(&self, event: &Event) -> Level {
+        event.from
+    }
+
+    /// The control of exceptions or returns by a level. No exception goes to EL0 and no return leaves it.
+    fn controlled(&self, state: &State, level: Level, control: u32) -> bool {
+        match level {
+            Level::EL0 => false,
+            Level::EL1 => bit(state.cr1, control),
+            Level::EL2 => bit(state.cr2, control),
+            Level::EL3 => state.records_el3(),
+        }
+    }
+
+    /// The new record. The running count has this event's cycles already.
+    fn record(&self, state: &State, event: &Event, shape: Shape) -> Record {
+        let unknown = self.count_unknown(state);
+        let cc = if unknown { 0 } else { self.encode(state.count) };
+        let inf = u64::from(unknown) << 46
+            | cc << 32
+            | event.cause.number() << 8
+            | self.shown_level(event, shape) << 6
+            | u64::from(self.shown_misprediction(state, event, shape)) << 5
+            | shape as u64;
+        [inf, self.shown_source(event, shape), self.shown_target(event, shape)]
+    }
+
+    fn shown_level(&self, event: &Event, shape: Shape) -> u64 {
+        if shape.has_target() {
+            event.to.number()
+        } else {
+            0
+        }
+    }
+
+    fn shown_misprediction(&self, state: &State, event: &Event, shape: Shape) -> bool {
+        event.mispredicted && shape.has_source() && state.shows_misprediction()
+    }
+
+    fn shown_source(&self, event: &Event, shape: Shape) -> u64 {
+        if shape.has_source() {
+            event.source
+        } else {
+            0
+        }
+    }
+
+    fn shown_target(&self, event: &Event, shape: Shape) -> u64 {
+        if shape.has_target() {
+            event.target
+        } else {
+            0
+        }
+    }
+
+    // ---------------------------------------------------------------------------------------------------------------
+    // Cycles
+
+    /// The cycles of an accepted operation, not a reset, and the first of the occasions: it "began at a prohibited
+    /// level".
+    fn pass(&self, state: &mut State, cycles: u64) {
+        state.count_on(cycles);
+        state.unknown |= self.prohibited(state, state.level);
+    }
+
+    /// The other two occasions: a write that "turned counting on", or that "cleared PAUSED from 1".
+    fn write_is_occasion(&self, before: &State, after: &State) -> bool {
+        let counting_on = after.counting() && !before.counting();
+        let paused_cleared = before.paused() && !after.paused();
+        counting_on || paused_cleared
+    }
+
+    /// Whether a record made now shows its count as unknown.
+    fn count_unknown(&self, state: &State) -> bool {
+        state.unknown || !state.counting()
+    }
+
+    /// "A record takes it, then it restarts from 0", and the occasions begin anew.
+    fn restart_count(&self, state: &mut State) {
+        state.count = 0;
+        state.unknown = false;
+    }
+
+    fn encode(&self, count: u64) -> u64 {
+        count::encode(count)
+    }
+
+    // ---------------------------------------------------------------------------------------------------------------
+    // Access outcomes
+
+    fn outcome(&self, state: &State, access: Access) -> Outcome {
+        if state.level == Level::EL0 || self.never_written(access) || self.hidden(state, access) {
+            Outcome::Undefined
+        } else if self.traps_to_el2(state, access) {
+            Outcome::Trap2
+        } else if self.traps_to_el3(state) {
+            Outcome::Trap3
+        } else {
+            Outcome::Performed
+        }
+    }
+
+    /// "Writing 0 or a record register: UNDEFINED."
+    fn never_written(&self, access: Access) -> bool {
+        matches!(access, Access::Write(Register::Idr0 | Register::Record { .. }))
+    }
+
+    /// "Register 2 at EL1: UNDEFINED."
+    fn hidden(&self, state: &State, access: Access) -> bool {
+        state.level == Level::EL1 && access.register() == Some(Register::Cr2)
+    }
+
+    /// "At EL1, if EL2 is enabled, FGTEn is 1 and the matching n-bit is 0".
+    fn traps_to_el2(&self, state: &State, access: Access) -> bool {
+        let platform = state.platform;
+        state.level == Level::EL1 && platform.el2_enabled() && platform.fgten() && !self.n_bit(platform, access)
+    }
+
+    /// The n-bit that matches an access.
+    fn n_bit(&self, platform: Platform, access: Access) -> bool {
+        match access {
+            Access::InvalidateAll => platform.n_brbiall(),
+            Access::Read(Register::Idr0) | Access::Write(Register::Idr0) => platform.n_brbidr(),
+            Access::Read(Register::Record { .. }) | Access::Write(Register::Record { .. }) => platform.n_brbdata_read(),
+            Access::Read(_) => platform.n_brbctl_read(),
+            Access::Write(_) => platform.n_brbctl_write(),
+        }
+    }
+
+    /// "At EL1 and EL2: trap to EL3 if NS 0 and SBRBE is not 3, or NS 1 and SBRBE is 0 or 2."
+    fn traps_to_el3(&self, state: &State) -> bool {
+        let trapped = match (state.platform.ns(), state.platform.sbrbe()) {
+            (false, sbrbe) => sbrbe != 3,
+            (true, sbrbe) => matches!(sbrbe, 0 | 2),
+        };
+        matches!(state.level, Level::EL1 | Level::EL2) && trapped
+    }
+
+    /// "At EL2 with E2H 1, register 1 means register 2."
+    fn meant(&self, state: &State, register: Register) -> Register {
+        match register {
+            Register::Cr1 if state.level == Level::EL2 && state.platform.e2h() => Register::Cr2,
+            _ => register,
+        }
+    }
+
+    /// What a performed read reads.
+    fn read(&self, state: &State, room: &[u64], register: Register) -> u64 {
+        match register {
+            Register::Idr0 => 0x5000 + state.size as u64,
+            Register::Cr1 => state.cr1,
+            Register::Cr2 => state.cr2,
+            Register::Fcr => state.fcr,
+            Register::Record { part, m } => {
+                let shown = self.shown_record(state, m);
+                shown.and_then(|record| room.get(3 * record + part as usize)).copied().unwrap_or(0)
+            }
+        }
+    }
+
+    /// "A record read shows number m + 32 × BANK, or 0 if that is not below the size."
+    fn shown_record(&self, state: &State, m: usize) -> Option<usize> {
+        let record = m + 32 * state.bank();
+        (record < state.size).then_some(record)
+    }
+
+    /// A performed write. The two kinds of register that are never written do not come here.
+    fn write(&self, state: &mut State, register: Register, value: u64) {
+        let before = *state;
+        match register {
+            Register::Cr1 => state.cr1 = self.kept(register, value),
+            Register::Cr2 => state.cr2 = self.kept(register, value),
+            Register::Fcr => state.fcr = self.kept(register, value),
+            Register::Idr0 | Register::Record { .. } => {}
+        }
+        state.unknown |= self.write_is_occasion(&before, state);
+    }
+
+    /// "Writes keep only these bits".
+    fn kept(&self, register: Register, value: u64) -> u64 {
+        value & if register == Register::Fcr { FILTER_MASK } else { CONTROL_MASK }
+    }
+
+    /// "BRB IALL sets every record to zero and lets the count run on."
+    fn invalidate_all(&self, state: &mut State, room: &mut [u64]) {
+        room::clear(room, state.size);
+    }
+}

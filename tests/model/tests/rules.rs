@@ -1,0 +1,169 @@
+//! Document 01's rules by small examples: the marked cases P9 to P11, each refusal, and the easy errors.
+
+use model::{Answer, BranchType, Document01, Refusal, Rules, State};
+
+/// A state and a room, and the operations done to them.
+struct Session {
+    state: [u64; State::NUMBERS],
+    room: Vec<u64>,
+}
+
+impl Session {
+    fn fresh(room: usize) -> Session {
+        Session { state: [0; State::NUMBERS], room: vec![7; room] }
+    }
+
+    /// Operations in document 01's written form; the answer to the last.
+    fn run(&mut self, operations: &str) -> Answer {
+        let mut answer = Answer::Done;
+        for operation in operations.split('/') {
+            let mut numbers = [0; 6];
+            for (number, text) in numbers.iter_mut().zip(operation.split_whitespace()) {
+                *number = text.parse().unwrap();
+            }
+            answer = Document01.step(&mut self.state, &mut self.room, numbers);
+        }
+        answer
+    }
+
+    fn refused(&mut self, operations: &str, refusal: Refusal) {
+        let before = (self.state, self.room.clone());
+        assert_eq!(self.run(operations), Answer::Refused(refusal), "{operations}");
+        assert_eq!((self.state, self.room.clone()), before, "{operations}: a refusal leaves all untouched");
+    }
+
+    fn newest(&self) -> &[u64] {
+        &self.room[..3]
+    }
+}
+
+/// Recording and counting on at EL0 to EL2, then a return to EL1, which becomes no record since EL3 is not recorded.
+const AT_EL1: &str = "0 0 8 0 / 4 0 49 / 6 0 1 12582939 / 6 0 2 12582939 / 6 0 3 65536 / 3 0 1 0 1 2";
+
+fn recorded_types(filter: u64) -> Vec<u64> {
+    let mut recorded = Vec::new();
+    for kind in BranchType::ALL.map(|kind| kind as u64) {
+        let mut session = Session::fresh(24);
+        session.run(AT_EL1);
+        session.run(&format!("6 0 3 {filter} / 7 0 / 1 0 {kind} 0 5 6"));
+        if session.newest()[0] != 0 {
+            recorded.push(kind);
+        }
+    }
+    recorded
+}
+
+/// P9 to P11.
+#[test]
+fn marked_filter_words() {
+    assert_eq!(recorded_types(0), []);
+    assert_eq!(recorded_types(0x10000), [0, 1, 2, 3, 5, 8]);
+    assert_eq!(recorded_types(0x30000), [1, 2, 3, 5, 8]);
+}
+
+#[test]
+fn a_reset_zeroes_its_records_and_no_more() {
+    let mut session = Session::fresh(30);
+    assert_eq!(session.run("0 99 8 1 5 5"), Answer::Done);
+    assert_eq!(session.state, [3, 8, 1, 0, 0, 0, 0, 0, 1]);
+    assert_eq!(session.room[..24], [0; 24]);
+    assert_eq!(session.room[24..], [7; 6]);
+}
+
+#[test]
+fn refusals() {
+    let mut session = Session::fresh(24);
+    session.refused("8 0", Refusal::UnknownCode);
+    session.refused("1 0 99", Refusal::NotReset);
+    for outside in ["0 0 0", "0 0 9", "0 0 8 2"] {
+        session.refused(outside, Refusal::OutsideList);
+    }
+    session.refused("0 0 16 0", Refusal::RoomTooShort);
+    session.run(AT_EL1);
+    session.refused("8 0", Refusal::UnknownCode);
+    for outside in ["1 0 4", "1 0 0 2", "2 0 33 1", "2 0 34 4", "3 0 4", "3 0 1 2", "4 0 128", "5 0 4", "6 0 128"] {
+        session.refused(outside, Refusal::OutsideList);
+    }
+    for level in ["2 0 34 0", "3 0 2", "3 0 3", "4 0 0"] {
+        session.refused(level, Refusal::NotPermitted);
+    }
+    session.run("2 0 34 2");
+    session.refused("2 0 34 1", Refusal::NotPermitted);
+    session.run("3 0 0");
+    session.refused("3 0 0", Refusal::NotPermitted);
+}
+
+#[test]
+fn levels_2_and_1_are_not_always_there() {
+    let mut session = Session::fresh(24);
+    session.run("0 0 8 0");
+    session.refused("3 0 2", Refusal::NotPermitted);
+    session.run("4 0 5");
+    session.refused("3 0 1", Refusal::NotPermitted);
+    assert_eq!(session.run("3 0 2"), Answer::Done);
+}
+
+#[test]
+fn unsound_states() {
+    let sound = [3, 8, 0, 0, 0, 0, 0, 1_048_576, 1];
+    let unsound =
+        [(0, 4), (0, 2), (1, 9), (2, 2), (3, 128), (3, 1 << 14), (4, 4), (5, 1 << 24), (6, 1), (7, 1_048_577), (8, 2)];
+    let mut room = [0; 24];
+    for (place, number) in unsound {
+        let mut state = sound;
+        state[place] = number;
+        let answer = Document01.step(&mut state, &mut room, [8, 0, 0, 0, 0, 0]);
+        assert_eq!(answer, Answer::Refused(Refusal::NotSound), "state number {place} is {number}");
+    }
+    let mut short = [0; 8];
+    let answer = Document01.step(&mut short, &mut room, [0, 0, 8, 0, 0, 0]);
+    assert_eq!(answer, Answer::Refused(Refusal::NotSound));
+}
+
+/// "Half-source: BRBTGT and level 0." An exception from EL1 to EL3, controlled by EL3 recording.
+#[test]
+fn half_records_hide_a_side() {
+    let mut session = Session::fresh(24);
+    session.run(&AT_EL1.replace("0 0 8 0", "0 0 8 1").replace("4 0 49", "4 0 113"));
+    session.run("6 0 1 12582937"); // E1BRE off: EL1 is prohibited
+    session.run("2 0 34 3 11 12");
+    assert_eq!(session.newest(), [1 << 46 | 0x22 << 8 | 3 << 6 | 1, 0, 12], "half-target");
+    session.run("3 5 1 1 13 14");
+    assert_eq!(session.newest(), [5 << 32 | 7 << 8 | 1 << 5 | 2, 13, 0], "half-source");
+}
+
+/// "BANK without the size": record 32 of a buffer of 8 is 0, whatever stands in the room.
+#[test]
+fn a_read_past_the_size_is_0() {
+    let mut session = Session::fresh(192);
+    assert_eq!(session.run("0 0 8 0 / 6 0 3 268435456 / 5 0 32"), Answer::Read(0));
+    assert_eq!(session.run("0 0 8 0 / 5 0 40"), Answer::Read(0));
+}
+
+#[test]
+fn occasions_end_with_the_record() {
+    let mut session = Session::fresh(24);
+    session.run(AT_EL1);
+    session.run("1 3 0 0 0 0");
+    assert_eq!(session.newest()[0], 1 << 46 | 1 << 6 | 3, "no record was made since the reset");
+    session.run("1 3 0 0 0 0");
+    assert_eq!(session.newest()[0], 3 << 32 | 1 << 6 | 3);
+    session.run("6 0 1 12582931 / 6 0 1 12582939 / 1 3 0 0 0 0");
+    assert_eq!(session.newest()[0], 1 << 46 | 1 << 6 | 3, "a write turned counting on");
+    session.run("6 0 1 12582939 / 1 3 0 0 0 0");
+    assert_eq!(session.newest()[0], 3 << 32 | 1 << 6 | 3, "the same value again is no occasion");
+    session.run("6 0 3 65664 / 6 0 3 65536 / 1 3 0 0 0 0");
+    assert_eq!(session.newest()[0], 1 << 46 | 1 << 6 | 3, "a write cleared PAUSED");
+    session.run("7 600 / 1 3 0 1 0 0");
+    assert_eq!(session.newest()[0], 0x22D << 32 | 1 << 6 | 1 << 5 | 3, "BRB IALL lets the count run on");
+    assert_eq!(session.room[3..24], [0; 21]);
+}
+
+#[test]
+fn e2h_redirects_register_1_at_el2() {
+    let mut session = Session::fresh(24);
+    session.run("0 0 8 0 / 4 0 57 / 6 0 1 1 / 6 0 2 2 / 3 0 2 0 0 0");
+    assert_eq!(session.run("5 0 1"), Answer::Read(2));
+    session.run("6 0 1 3");
+    assert_eq!(session.state[4..6], [1, 3]);
+}
