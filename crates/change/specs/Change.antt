@@ -11,6 +11,8 @@ use Rattle.region.specs.Region.{prohibited}
 use Rattle.filter.specs.Filter.{returnType, chosen}
 use Rattle.event.specs.Event.{EXCEPTION, ERTN, controlled, made}
 use Rattle.access.specs.Access.{writeOutcome, iallOutcome, isPerformed, meant, registerWritten}
+use Rattle.change.specs.declared.Asked.{Asked}
+use Rattle.change.specs.declared.Asked.the-variants.{Happens, Plain}
 use Rattle.operation.specs.declared.Operation.{Operation}
 use Rattle.operation.specs.declared.Operation.the-variants.{Reset, Branch, Exception, Return, Platform, Read, Write, Iall, Unknown}
 
@@ -41,24 +43,33 @@ passed before after cycles =
       unknown = cond (occasion before after) 1 (before .running .unknown);
     }
 
--- What an accepted operation does to the records, where the running count is r with its cycles in it. An event starts at
--- the current level; an exception is controlled by the level that it enters, a return by the level that it leaves.
-unfoldable pub effectOf : State → Operation → Running → Effect
-effectOf s (Reset size v1p1) r = Start size
-effectOf s (Branch kind m source target) r =
-    made s r (chosen (s .brbfcr) (record { code = kind }))
+-- What an operation asks of the records: an event, with what its filter or control says of it, or an effect. An event starts
+-- at the current level; an exception is controlled by the level that it enters, a return by the level that it leaves.
+unfoldable pub askedOf : State → Operation → Asked
+askedOf s (Reset size v1p1) = Plain (Start size)
+askedOf s (Branch kind m source target) =
+    Happens (chosen (s .brbfcr) (record { code = kind }))
     (record { kind = kind; mispredicted = m; left = s .level; entered = s .level; source = source; target = target })
-effectOf s (Exception kind level source target) r =
-    made s r (controlled s level (EXCEPTION (s .brbcr1)) (EXCEPTION (s .brbcr2)))
+askedOf s (Exception kind level source target) =
+    Happens (controlled s level (EXCEPTION (s .brbcr1)) (EXCEPTION (s .brbcr2)))
     (record { kind = kind; mispredicted = 0; left = s .level; entered = level; source = source; target = target })
-effectOf s (Return level m source target) r =
-    made s r (controlled s (s .level) (ERTN (s .brbcr1)) (ERTN (s .brbcr2)))
+askedOf s (Return level m source target) =
+    Happens (controlled s (s .level) (ERTN (s .brbcr1)) (ERTN (s .brbcr2)))
     (record { kind = returnType; mispredicted = m; left = s .level; entered = level; source = source; target = target })
-effectOf s (Platform p) r = Keep
-effectOf s (Read register) r = Keep
-effectOf s (Write register value) r = Keep
-effectOf s Iall r = cond (isPerformed (iallOutcome s)) Clear Keep
-effectOf s Unknown r = Keep
+askedOf s (Platform p) = Plain Keep
+askedOf s (Read register) = Plain Keep
+askedOf s (Write register value) = Plain Keep
+askedOf s Iall = Plain (cond (isPerformed (iallOutcome s)) Clear Keep)
+askedOf s Unknown = Plain Keep
+
+-- What comes of it, where the running count is r with the operation's cycles in it.
+abbrev pub granted : State → Running → Asked → Effect
+granted s r (Happens wanted e) = made s r wanted e
+granted s r (Plain effect) = effect
+
+-- What an accepted operation does to the records.
+unfoldable pub effectOf : State → Operation → Running → Effect
+effectOf s o r = granted s r (askedOf s o)
 
 -- "A record takes it, that event's cycles included, then it restarts from 0." BRB IALL "lets the count run on". A reset's
 -- own cycles are dropped.

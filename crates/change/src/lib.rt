@@ -5,7 +5,7 @@ ghost use mathlib.Core.Bool.{cond};
 ghost use Prim.Native.Nat.{_+_, min};
 ghost use Rattle.state.specs.Sound.{cap};
 ghost use Rattle.access.specs.Access.{writeOutcome, iallOutcome, isPerformed, meant, registerWritten};
-ghost use Rattle.change.specs.Change.{changed, occasion, passed, effectOf, runningAfter};
+ghost use Rattle.change.specs.Change.{changed, occasion, passed, askedOf, effectOf, runningAfter};
 use access::iall_outcome;
 use access::is_performed;
 use access::meant;
@@ -30,6 +30,13 @@ const ERTN: u64 = 0x40_0000;
 
 // The type of an exception return.
 const RETURN: u64 = 7;
+
+// What an operation asks of the records.
+pub enum Asked {
+    // An event, and what its filter or control says of it.
+    Happens(bool, Event),
+    Plain(Effect),
+}
 
 // The state after a write, performed or not.
 fn written(s: State, r: u64, value: u64) -> State
@@ -110,15 +117,8 @@ pub fn passed(s: State, after: State, cycles: u64) -> Running
     }
 }
 
-fn branch_effect(
-    s: State,
-    r: Running,
-    kind: u64,
-    mispredicted: u64,
-    source: u64,
-    target: u64,
-) -> Effect
-    ensures { λ x. ⌜ x ≡ effectOf s (Operation.Branch kind mispredicted source target) r ⌝ }
+fn branch_asked(s: State, kind: u64, mispredicted: u64, source: u64, target: u64) -> Asked
+    ensures { λ x. ⌜ x ≡ askedOf s (Operation.Branch kind mispredicted source target) ⌝ }
 {
     let t = BranchType { code: kind };
     let e = Event {
@@ -129,12 +129,12 @@ fn branch_effect(
         source,
         target,
     };
-    made(s, r, t.chosen(s.brbfcr), e)
+    Asked::Happens(t.chosen(s.brbfcr), e)
 }
 
 // An exception is controlled by the level that it enters.
-fn exception_effect(s: State, r: Running, kind: u64, level: u64, source: u64, target: u64) -> Effect
-    ensures { λ x. ⌜ x ≡ effectOf s (Operation.Exception kind level source target) r ⌝ }
+fn exception_asked(s: State, kind: u64, level: u64, source: u64, target: u64) -> Asked
+    ensures { λ x. ⌜ x ≡ askedOf s (Operation.Exception kind level source target) ⌝ }
 {
     let e = Event {
         kind,
@@ -150,19 +150,12 @@ fn exception_effect(s: State, r: Running, kind: u64, level: u64, source: u64, ta
         s.brbcr1 / EXCEPTION % 2 == 1,
         s.brbcr2 / EXCEPTION % 2 == 1,
     );
-    made(s, r, wanted, e)
+    Asked::Happens(wanted, e)
 }
 
 // A return is controlled by the level that it leaves.
-fn return_effect(
-    s: State,
-    r: Running,
-    level: u64,
-    mispredicted: u64,
-    source: u64,
-    target: u64,
-) -> Effect
-    ensures { λ x. ⌜ x ≡ effectOf s (Operation.Return level mispredicted source target) r ⌝ }
+fn return_asked(s: State, level: u64, mispredicted: u64, source: u64, target: u64) -> Asked
+    ensures { λ x. ⌜ x ≡ askedOf s (Operation.Return level mispredicted source target) ⌝ }
 {
     let e = Event {
         kind: RETURN,
@@ -178,7 +171,7 @@ fn return_effect(
         s.brbcr1 / ERTN % 2 == 1,
         s.brbcr2 / ERTN % 2 == 1,
     );
-    made(s, r, wanted, e)
+    Asked::Happens(wanted, e)
 }
 
 // BRB IALL clears the records where it is performed.
@@ -192,38 +185,49 @@ fn iall_effect(s: State) -> Effect
     }
 }
 
-// What an operation does to the records, where the running count is r with its cycles in it.
-pub fn effect_of(s: State, o: Operation, r: Running) -> Effect
-    ensures { λ x. ⌜ x ≡ effectOf s o r ⌝ }
+fn asked_of(s: State, o: Operation) -> Asked
+    ensures { λ x. ⌜ x ≡ askedOf s o ⌝ }
 {
     match o {
-        Operation::Reset { size, v1p1: _ } => Effect::Start(size),
+        Operation::Reset { size, v1p1: _ } => Asked::Plain(Effect::Start(size)),
         Operation::Branch {
             kind,
             mispredicted,
             source,
             target,
-        } => { branch_effect(s, r, kind, mispredicted, source, target) }
+        } => branch_asked(s, kind, mispredicted, source, target),
         Operation::Exception {
             kind,
             target_level,
             source,
             target,
-        } => { exception_effect(s, r, kind, target_level, source, target) }
+        } => { exception_asked(s, kind, target_level, source, target) }
         Operation::Return {
             target_level,
             mispredicted,
             source,
             target,
-        } => { return_effect(s, r, target_level, mispredicted, source, target) }
-        Operation::Platform { p: _ } => Effect::Keep,
-        Operation::Read { register: _ } => Effect::Keep,
+        } => { return_asked(s, target_level, mispredicted, source, target) }
+        Operation::Platform { p: _ } => Asked::Plain(Effect::Keep),
+        Operation::Read { register: _ } => Asked::Plain(Effect::Keep),
         Operation::Write {
             register: _,
             value: _,
-        } => Effect::Keep,
-        Operation::Iall => iall_effect(s),
-        Operation::Unknown => Effect::Keep,
+        } => Asked::Plain(Effect::Keep),
+        Operation::Iall => Asked::Plain(iall_effect(s)),
+        Operation::Unknown => Asked::Plain(Effect::Keep),
+    }
+}
+
+// What an operation does to the records, where the running count is r with its cycles in it. All events come to one call
+// of `made`, so that the compiler keeps what it decides in registers.
+pub fn effect_of(s: State, o: Operation, r: Running) -> Effect
+    ensures { λ x. ⌜ x ≡ effectOf s o r ⌝ }
+{
+    let asks = asked_of(s, o);
+    match asks {
+        Asked::Happens(wanted, e) => made(s, r, wanted, e),
+        Asked::Plain(effect) => effect,
     }
 }
 

@@ -28,7 +28,7 @@ use Rattle.operation.specs.declared.Operation.{Operation}
 use Rattle.operation.specs.declared.Operation.the-variants.{Reset, Branch, Exception, Return, Platform, Read, Write, Iall, Unknown}
 use Rattle.operation.specs.Refusal.{notReset, sizeAfter, refusalOf}
 use Rattle.operation.proofs.Laws.{accepts, sized}
-use Rattle.change.specs.Change.{changed, passed, effectOf}
+use Rattle.change.specs.Change.{changed, passed, askedOf, effectOf}
 use Rattle.recorder.specs.Step.{accepted, acceptedWith, stepOf}
 use Rattle.recorder.proofs.Laws.{accepted-step, refused-step}
 use Rattle.demands.specs.After.{recordsAfter, IsEvent, branch, exception, return, entered}
@@ -46,7 +46,7 @@ made-none s r wanted e source target = rw (source, target) (never-wanted (wanted
 
 effect-inside : (s : State) {o : Operation} (r : Running) (e : IsEvent o) → prohibited s (s .level) ≡ true
     → prohibited s (entered s e) ≡ true → effectOf s o r ≡ Keep
-unfolding effectOf
+unfolding effectOf askedOf
 effect-inside s r branch source target = made-none s r _ _ source target
 effect-inside s r exception source target = made-none s r _ _ source target
 effect-inside s r return source target = made-none s r _ _ source target
@@ -125,7 +125,7 @@ record-hidden s r e =
 -- Only an event makes a record, and that record hides what is prohibited.
 pub hidden-address-zero : (s : State) {o : Operation} (r : Running) (e : IsEvent o) (new : Record) → effectOf s o r ≡ Push new
     → Hidden s (s .level) (entered s e) new
-unfolding effectOf
+unfolding effectOf askedOf
 hidden-address-zero s r branch new h = rw (made-record s r _ _ new h) (record-hidden s r _)
 hidden-address-zero s r exception new h = rw (made-record s r _ _ new h) (record-hidden s r _)
 hidden-address-zero s r return new h = rw (made-record s r _ _ new h) (record-hidden s r _)
@@ -146,7 +146,7 @@ cleared-or-kept size true = refl
 cleared-or-kept size false = refl
 
 pub size-after : (s : State) (o : Operation) (r : Running) → sizeAfter s o ≡ sizeAfterEffect (s .size) (effectOf s o r)
-unfolding effectOf
+unfolding effectOf askedOf
 size-after s (Reset size v1p1) r = refl
 size-after s (Branch kind m source target) r = keeps-size (s .size) s r _ _
 size-after s (Exception kind level source target) r = keeps-size (s .size) s r _ _
@@ -159,7 +159,7 @@ size-after s Unknown r = refl
 
 -- Only an event makes a record, and it needs a reset before it.
 pub pushed-by : (s : State) (o : Operation) (r : Running) (new : Record) → effectOf s o r ≡ Push new → IsEvent o
-unfolding effectOf
+unfolding effectOf askedOf
 pushed-by s (Reset size v1p1) r new h = never (cc)
 pushed-by s (Branch kind m source target) r new h = branch
 pushed-by s (Exception kind level source target) r new h = exception

@@ -17,7 +17,7 @@ use Rattle.operation.specs.declared.Operation.{Operation}
 use Rattle.operation.specs.declared.Operation.the-variants.{Reset, Branch, Exception, Return, Platform, Read, Write, Iall, Unknown}
 use Rattle.operation.specs.Refusal.{notReset}
 use Rattle.operation.proofs.Laws.{Accepts, sized}
-use Rattle.change.specs.Change.{changed, effectOf}
+use Rattle.change.specs.Change.{changed, askedOf, effectOf}
 use Rattle.history.proofs.Notes.{Takes, takes}
 
 -- What an effect needs, and the size after it, where the size before it, the room's length and the running count are given.
@@ -46,7 +46,7 @@ module _ (s : State) (r : Running) (room : ℕ) where
   size-written false k value = refl
 
   pub allowed : (o : Operation) → Accepts s o room → Can (effectOf s o r) (changed s o .size)
-  unfolding effectOf changed notReset
+  unfolding effectOf askedOf changed notReset
   allowed (Reset size v1p1) a = starts (a .room-enough)
   allowed (Branch kind m source target) a = can-make _ _ (sized (s .size) (a .was-reset)) (a .room-enough)
   allowed (Exception kind level source target) a = can-make _ _ (sized (s .size) (a .was-reset)) (a .room-enough)

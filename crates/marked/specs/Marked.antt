@@ -17,7 +17,7 @@ use Rattle.event.specs.Event.{controlled, valid, countUnknown, MPRED, BRBINF, r
 use Rattle.access.specs.Access.{permitted, trapped2, outcome, readOutcome, writeOutcome, iallOutcome, shownRecord, shownNumber, registerValue, registerWritten}
 use Rattle.operation.specs.Operation.{operationOf}
 use Rattle.operation.specs.Refusal.{unknownCode, notReset, outsideList, notPermitted, roomTooShort, refusalOf}
-use Rattle.change.specs.Change.{changed, occasion, passed, effectOf}
+use Rattle.change.specs.Change.{changed, occasion, passed, askedOf, effectOf}
 use Rattle.recorder.specs.Step.{answerOf, acceptedWith, accepted, stepOf}
 use Rattle.recording.specs.Recording.{fieldCount, numbersAt, operationAt, bytesOfAll, operationBytes}
 use Rattle.recording.specs.RecordedStep.{recordedStep}
@@ -88,5 +88,5 @@ cases =
     ∷ []
 
 pub marked : map computed cases ≡ cases
-unfolding bitLength exponent mantissa encoded countOf decoded numberIn numberAt bytesIn bytesOf closed sound records numbered pushed cleared roomAfter enabled prohibited filterBit chosen controlled valid countUnknown MPRED BRBINF recordOf made permitted trapped2 outcome readOutcome writeOutcome iallOutcome shownRecord shownNumber registerValue registerWritten operationOf unknownCode notReset outsideList notPermitted roomTooShort refusalOf changed occasion passed effectOf answerOf acceptedWith accepted stepOf fieldCount numbersAt operationAt bytesOfAll operationBytes recordedStep digits decimalCount decimal hexadecimal lineOf replayFrom replayOf
+unfolding bitLength exponent mantissa encoded countOf decoded numberIn numberAt bytesIn bytesOf closed sound records numbered pushed cleared roomAfter enabled prohibited filterBit chosen controlled valid countUnknown MPRED BRBINF recordOf made permitted trapped2 outcome readOutcome writeOutcome iallOutcome shownRecord shownNumber registerValue registerWritten operationOf unknownCode notReset outsideList notPermitted roomTooShort refusalOf changed occasion passed askedOf effectOf answerOf acceptedWith accepted stepOf fieldCount numbersAt operationAt bytesOfAll operationBytes recordedStep digits decimalCount decimal hexadecimal lineOf replayFrom replayOf
 marked = refl

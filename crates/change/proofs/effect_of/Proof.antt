@@ -1,4 +1,4 @@
--- What an operation does to the records, as defined: each arm knows its operation.
+-- What an operation does to the records, as defined: what it asks is granted.
 use borrow.Author.Needs.{needs}
 use Rattle.change.specs.Change.{effectOf}
 use Rattle.change.proofs.effect_of.Statement.{statement}
@@ -9,25 +9,9 @@ unfolding effectOf
 effect-of-spec =
     tie.close
     (tie.spec
-    (λ c. search needs)
-    (λ c. search needs)
     (λ _ _. tt)
     (λ c. search needs)
     (λ _ _. tt)
     (λ c. search needs)
-    (λ _ _. tt)
-    (λ c. search needs)
-    (λ c. search needs)
-    (λ c. search needs)
-    (λ c. search needs)
-    (λ _ _. tt)
-    (λ c. search needs)
-    (λ c. rw (c .before .o .given .1))
-    (λ c. rw (c .before .before .o2 .given .1, c .branch-effect .ensures))
-    (λ c. rw (c .before .before .o3 .given .1, c .exception-effect .ensures))
-    (λ c. rw (c .before .before .o4 .given .1, c .return-effect .ensures))
-    (λ c. rw (c .enum-told .given .1))
-    (λ c. rw (c .enum-told2 .given .1))
-    (λ c. rw (c .enum-told3 .given .1))
-    (λ c. rw (c .before .enum-told4 .given .1, c .iall-effect .ensures))
-    (λ c. rw (c .enum-told5 .given .1)))
+    (λ c. rw (← c .before .before .before .before .asked-of .ensures, c .before .before .asks .given .1) (c .made .ensures))
+    (λ c. rw (← c .before .before .before .asked-of .ensures, c .before .asks2 .given .1)))
