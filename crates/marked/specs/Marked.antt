@@ -20,6 +20,7 @@ use Rattle.operation.specs.Refusal.{unknownCode, notReset, outsideList, notPerm
 use Rattle.change.specs.Change.{changed, occasion, passed, askedOf, effectOf}
 use Rattle.recorder.specs.Step.{answerOf, acceptedWith, accepted, stepOf}
 use Rattle.recording.specs.Recording.{fieldCount, numbersAt, operationAt, bytesOfAll, operationBytes}
+use Rattle.recording.specs.Operations.{recordingBytes}
 use Rattle.recording.specs.RecordedStep.{recordedStep}
 use Rattle.line.specs.Line.{lineOf, replayFrom, replayOf}
 
@@ -38,10 +39,6 @@ pub data Case : Type 0 where
   -- a session's operations, and what its replay prints, line by line
   Prints : List Numbers → List ℕ → Case
 
-abbrev pub recording : List Numbers → List ℕ
-recording [] = []
-recording (x ∷ list) = operationBytes x ++ recording list
-
 abbrev pub chosenOf : ℕ → List ℕ → List ℕ
 chosenOf word [] = []
 chosenOf word (t ∷ types) = cond (chosen word (record { code = t })) (t ∷ chosenOf word types) (chosenOf word types)
@@ -51,7 +48,7 @@ abbrev pub computed : Case → Case
 computed (Encodes n cc) = Encodes n (encoded n)
 computed (Decodes cc n) = Decodes cc (decoded cc)
 computed (Records word types) = Records word (chosenOf word branchTypes)
-computed (Prints session text) = Prints session (replayOf (recording session))
+computed (Prints session text) = Prints session (replayOf (recordingBytes session))
 
 -- Session S1.
 abbrev pub S1 : List Numbers
@@ -88,5 +85,5 @@ cases =
     ∷ []
 
 pub marked : map computed cases ≡ cases
-unfolding bitLength exponent mantissa encoded countOf decoded numberIn numberAt bytesIn bytesOf closed sound records numbered pushed cleared roomAfter enabled prohibited filterBit chosen controlled valid countUnknown MPRED BRBINF recordOf made permitted trapped2 outcome readOutcome writeOutcome iallOutcome shownRecord shownNumber registerValue registerWritten operationOf unknownCode notReset outsideList notPermitted roomTooShort refusalOf changed occasion passed askedOf effectOf answerOf acceptedWith accepted stepOf fieldCount numbersAt operationAt bytesOfAll operationBytes recordedStep digits decimalCount decimal hexadecimal lineOf replayFrom replayOf
+unfolding bitLength exponent mantissa encoded countOf decoded numberIn numberAt bytesIn bytesOf closed sound records numbered pushed cleared roomAfter enabled prohibited filterBit chosen controlled valid countUnknown MPRED BRBINF recordOf made permitted trapped2 outcome readOutcome writeOutcome iallOutcome shownRecord shownNumber registerValue registerWritten operationOf unknownCode notReset outsideList notPermitted roomTooShort refusalOf changed occasion passed askedOf effectOf answerOf acceptedWith accepted stepOf fieldCount numbersAt operationAt bytesOfAll operationBytes recordingBytes recordedStep digits decimalCount decimal hexadecimal lineOf replayFrom replayOf
 marked = refl

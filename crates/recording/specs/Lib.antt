@@ -1,2 +1,4 @@
 pub mod Recording
 pub mod RecordedStep
+pub mod Both
+pub mod Operations

@@ -36,19 +36,21 @@ unfoldable pub numbersAt : ℕ → List ℕ → ℕ → Several
 numbersAt zero bytes at = got [] at
 numbersAt (suc k) bytes at = thenRead (numbersAt k bytes) at (numberAt bytes at)
 
--- Cycles and fields of an operation whose code was read: "a reader gives 0" for numbers beyond its own fields.
+-- An operation from its code, and its cycles and fields in a list: "a reader gives 0" for numbers beyond its own fields.
+abbrev pub numbersOf : ℕ → List ℕ → Numbers
+numbersOf code list =
+    record { code = code; cycles = getD list 0 0; a = getD list 1 0; b = getD list 2 0; c = getD list 3 0; d = getD list 4 0 }
+
+-- Cycles and fields of an operation whose code was read.
 abbrev pub withFields : ℕ → Several → Reading
-withFields code (got list next) =
-    Operation
-    (record { code = code; cycles = getD list 0 0; a = getD list 1 0; b = getD list 2 0; c = getD list 3 0; d = getD list 4 0 })
-    next
+withFields code (got list next) = Operation (numbersOf code list) next
 withFields code (bad place) = Reading.Malformed place
 
 -- "then the code is read (1, then 2), then all fields (1)"; cycles are read with the fields. "input ending inside an
 -- operation is 1"
 abbrev pub afterCode : List ℕ → ℕ → Found → Reading
 afterCode bytes at (Value code next) =
-    cond (ltb 7 code) (UnknownCode at) (withFields code (numbersAt (1 + fieldCount code) bytes next))
+    cond (ltb 7 code) (UnknownCode at) (withFields code (numbersAt (suc (fieldCount code)) bytes next))
 afterCode bytes at Malformed = Reading.Malformed at
 afterCode bytes at Ended = Reading.Malformed at
 
@@ -60,10 +62,13 @@ unfoldable pub bytesOfAll : List ℕ → List ℕ
 bytesOfAll [] = []
 bytesOfAll (n ∷ list) = bytesOf n ++ bytesOfAll list
 
+-- An operation's cycles and its own fields.
+abbrev pub ownNumbers : Numbers → List ℕ
+ownNumbers x = x .cycles ∷ take (fieldCount (x .code)) (x .a ∷ x .b ∷ x .c ∷ x .d ∷ [])
+
 -- The bytes of an operation: its code, its cycles and its own fields.
 unfoldable pub operationBytes : Numbers → List ℕ
-operationBytes x =
-    bytesOfAll (x .code ∷ take (1 + fieldCount (x .code)) (x .cycles ∷ x .a ∷ x .b ∷ x .c ∷ x .d ∷ []))
+operationBytes x = bytesOfAll (x .code ∷ ownNumbers x)
 
 -- "The writer checks only 2, then 6, and answers the number of bytes it wrote."
 unfoldable pub writeRefusal : Numbers → ℕ → List ℕ → ℕ

@@ -1,4 +1,20 @@
 // Recordings (document 01, "Recordings"): operations one after another to the end of input.
+ghost use mathlib.Core.Path.{_≡_};
+ghost use Prim.Native.Nat.{suc, _+_, _≤_};
+ghost use lib.ListN.{length, take};
+ghost use Rattle.number.specs.Number.{written};
+ghost use Rattle.recording.specs.Operations.{storedNumbers};
+ghost use Rattle.recording.specs.Recording.{fieldCount, numbersAt, withFields, operationAt, bytesOfAll, writtenOperation, writingOf, numberOfWriting, valueOfWriting};
+ghost use Rattle.recording.specs.RecordedStep.{recordedStep};
+ghost use Rattle.recording.specs.Both.{both};
+use number::Found;
+use number::number_at;
+use number::number_length;
+use number::write_number;
+use operation::operation_of;
+use recorder::Answer;
+use recorder::step;
+use state::State;
 
 // An operation as its six numbers. Those beyond its own fields are 0 where they were read.
 pub struct Numbers {
@@ -26,4 +42,207 @@ pub enum Writing {
     Wrote(usize),
     // The number of the refusal.
     Refused(u64),
+}
+
+impl Writing {
+    // Document 01's number: a refusal's, or 0.
+    pub fn number(self) -> u64
+        ensures { λ r. ⌜ r ≡ numberOfWriting self ⌝ }
+    {
+        match self {
+            Writing::Wrote(_) => 0,
+            Writing::Refused(n) => n,
+        }
+    }
+
+    // "the number of bytes it wrote", 0 where it refused.
+    pub fn value(self) -> u64
+        ensures { λ r. ⌜ r ≡ valueOfWriting self ⌝ }
+    {
+        match self {
+            Writing::Wrote(n) => n as u64,
+            Writing::Refused(_) => 0,
+        }
+    }
+}
+
+// How many fields each code has (document 01, "Operations").
+const FIELDS: [u8; 8] = [2, 4, 4, 4, 1, 1, 2, 0];
+
+fn field_count(code: u64) -> u8
+    requires { ⌜ code ≤ 7 ⌝ }
+    ensures { λ r. ⌜ r ≡ fieldCount code ⌝ }
+{
+    FIELDS[code as usize]
+}
+
+// An operation that was read, and the place after it. What its code has no field for is handed in as 0.
+fn operation(code: u64, cycles: u64, a: u64, b: u64, c: u64, d: u64, next: usize) -> Reading
+    ensures { λ r. ⌜ r ≡ Reading.Operation (record { code = code; cycles = cycles; a = a; b = b; c = c; d = d }) next ⌝ }
+{
+    let x = Numbers {
+        code,
+        cycles,
+        a,
+        b,
+        c,
+        d,
+    };
+    Reading::Operation(x, next)
+}
+
+// Cycles and fields after a code (document 01, "Refusal numbers": "then all fields (1)"). A chain and no loop, since a
+// replay spends its time here. No code has three fields, so what has more than two has four.
+fn fields_at(bytes: &[u8], at: usize, code: u64) -> Reading
+    requires { ⌜ code ≤ 7 ⌝ }
+    ensures { λ r. ⌜ r ≡ withFields code (numbersAt (suc (fieldCount code)) (now (bytes .entry)) at) ⌝ }
+{
+    let count = field_count(code);
+    let Found::Value(cycles, first) = number_at(bytes, at) else {
+        return Reading::Malformed(at);
+    };
+    if count == 0 {
+        return operation(code, cycles, 0, 0, 0, 0, first);
+    }
+    let Found::Value(a, second) = number_at(bytes, first) else {
+        return Reading::Malformed(first);
+    };
+    if count == 1 {
+        return operation(code, cycles, a, 0, 0, 0, second);
+    }
+    let Found::Value(b, third) = number_at(bytes, second) else {
+        return Reading::Malformed(second);
+    };
+    if count == 2 {
+        return operation(code, cycles, a, b, 0, 0, third);
+    }
+    let Found::Value(c, fourth) = number_at(bytes, third) else {
+        return Reading::Malformed(third);
+    };
+    let Found::Value(d, next) = number_at(bytes, fourth) else {
+        return Reading::Malformed(fourth);
+    };
+    operation(code, cycles, a, b, c, d, next)
+}
+
+// The operation at a place (document 01, "Refusal numbers": "the code is read (1, then 2), then all fields (1)").
+pub fn operation_at(bytes: &[u8], at: usize) -> Reading
+    ensures { λ r. ⌜ r ≡ operationAt (now (bytes .entry)) at ⌝ }
+{
+    let Found::Value(code, next) = number_at(bytes, at) else {
+        return Reading::Malformed(at);
+    };
+    if 7 < code {
+        return Reading::UnknownCode(at);
+    }
+    fields_at(bytes, next, code)
+}
+
+// How many bytes the first numbers of a list have: never more than ten each.
+fn numbers_length(list: [u64; 6], count: usize) -> usize
+    requires { ⌜ count ≤ 6 ⌝ }
+    ensures { λ r. ⌜ (r ≡ length (bytesOfAll (take count list))) × (r ≤ 60) ⌝ }
+{
+    let mut size = 0;
+    let mut i = 0;
+    while i < count {
+        size = size + number_length(list[i]);
+        i = i + 1;
+    }
+    size
+}
+
+// The first numbers of a list, one after another, at a place of lent bytes that have room for them there.
+fn write_numbers(out: &mut [u8], at: usize, list: [u64; 6], count: usize)
+    requires { ⌜ (count ≤ 6) × (at + length (bytesOfAll (take count list)) ≤ length (now out)) ⌝ }
+    ensures { λ _. ⌜ now (out .exit) ≡ written (now (out .entry)) at (bytesOfAll (take count list)) ⌝ }
+{
+    let mut place = at;
+    let mut i = 0;
+    while i < count {
+        place = place + write_number(out, place, list[i]);
+        i = i + 1;
+    }
+}
+
+// An operation at a place of lent bytes (document 01, "Refusal numbers": "The writer checks only 2, then 6, and answers the
+// number of bytes it wrote."). The whole length is known before the first byte is written, so that a refusal writes
+// nothing. The tests subtract, since a sum with a large place would wrap.
+pub fn write_operation(out: &mut [u8], at: usize, x: Numbers) -> Writing
+    ensures { λ r. ⌜ r ≡ writingOf x at (now (out .entry)) ⌝ }
+    ensures { λ _. ⌜ now (out .exit) ≡ writtenOperation x at (now (out .entry)) ⌝ }
+{
+    if 7 < x.code {
+        return Writing::Refused(2);
+    }
+    let list = [x.code, x.cycles, x.a, x.b, x.c, x.d];
+    let count = field_count(x.code) as usize + 2;
+    let size = numbers_length(list, count);
+    if out.len() < size {
+        return Writing::Refused(6);
+    }
+    if out.len() - size < at {
+        return Writing::Refused(6);
+    }
+    write_numbers(out, at, list, count);
+    Writing::Wrote(size)
+}
+
+// A recorded step's answer, the state as it leaves it, and the place where reading goes on; the room it leaves is the
+// lent one.
+pub struct Replayed {
+    pub answer: Answer,
+    pub state: State,
+    pub next: usize,
+}
+
+// One operation of a recording (document 01, "Refusal numbers": "7 comes first, then the code is read (1, then 2), then all
+// fields (1), then the rest."). After 7 nothing was read, so that the place is the one handed in.
+pub fn recorded_step(s: State, room: &mut [u64], bytes: &[u8], at: usize) -> Replayed
+    ensures { λ r. ⌜ both r (now (room .exit)) ≡ recordedStep s (now (room .entry)) (now (bytes .entry)) at ⌝ }
+{
+    if !s.sound() {
+        return refused(7, s, at);
+    }
+    match operation_at(bytes, at) {
+        Reading::Operation(x, next) => {
+            let o = operation_of(x.code, x.a, x.b, x.c, x.d);
+            let done = step(s, room, o, x.cycles);
+            let state = done.state;
+            let answer = done.answer;
+            Replayed {
+                answer,
+                state,
+                next,
+            }
+        }
+        Reading::Malformed(place) => refused(1, s, place),
+        Reading::UnknownCode(place) => refused(2, s, place),
+    }
+}
+
+// A refusal in a recording, and the place where reading goes on or the bad number starts.
+fn refused(number: u64, state: State, next: usize) -> Replayed
+    ensures { λ r. ⌜ r ≡ record { answer = Answer.Refused number; state = state; next = next } ⌝ }
+{
+    Replayed {
+        answer: Answer::Refused(number),
+        state,
+        next,
+    }
+}
+
+// An operation's six numbers into lent numbers; none is written where they are too few.
+pub fn store_numbers(place: &mut [u64], x: Numbers)
+    ensures { λ _. ⌜ now (place .exit) ≡ storedNumbers x (now (place .entry)) ⌝ }
+{
+    if place.len() < 6 {
+        return;
+    }
+    place[0] = x.code;
+    place[1] = x.cycles;
+    place[2] = x.a;
+    place[3] = x.b;
+    place[4] = x.c;
+    place[5] = x.d;
 }

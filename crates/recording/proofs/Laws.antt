@@ -1,0 +1,271 @@
+-- What is written reads back, and what was read is what is written: an operation, and a whole recording.
+use mathlib.Core.Path.{_≡_, refl, sym, ap, subst, _∙_}
+use mathlib.Core.Logic.{⊎-elim}
+use mathlib.Core.List.{List, [], _∷_, _++_, map, append-assoc}
+use Prim.Native.Nat.{ℕ, zero, suc, _+_, _^_, _≤_, _<_}
+use native.Mathlib.Nat.{add-zero, add-assoc}
+use native.Mathlib.Omega.{arith}
+use borrow.Author.Tests.{lt-ltb, le-ltb, le-leb, lt-leb}
+use lib.ListN.{length, take, drop, getD, length-append, length-drop, drop-of-length-le}
+use lib.Seq.{drop-drop, drop-append-seam, length-take-le}
+use Rattle.bits.proofs.Cases.{below-or-not}
+use Rattle.number.specs.declared.Found.{Found}
+use Rattle.number.specs.declared.Found.the-variants.{Value, Malformed, Ended}
+use Rattle.number.specs.Number.{numberIn, numberAt, bytesIn, bytesOf}
+use Rattle.number.proofs.Laws.{read-written, what-reads, length-of, Bytes}
+use Rattle.recording.specs.declared.Numbers.{Numbers}
+use Rattle.recording.specs.declared.Reading.{Reading}
+use Rattle.recording.specs.declared.Reading.the-variants.{Operation, UnknownCode}
+use Rattle.recording.specs.Recording.{fieldCount, Several, got, bad, inFront, thenRead, numbersAt, numbersOf, withFields, afterCode, operationAt, bytesOfAll, ownNumbers, operationBytes}
+use Rattle.recording.specs.Operations.{ownFields, recordingBytes, Contents, stopped, andThen, contentsFrom, contentsOf}
+use Rattle.recording.proofs.Cases.{fields-at-most}
+
+-- Each element is below 2^64
+abbrev pub Words : List ℕ → Type 0
+Words list = (i : ℕ) → getD list i 0 < 2 ^ 64
+
+words-more : (n : ℕ) (list : List ℕ) → n < 2 ^ 64 → Words list → Words (n ∷ list)
+words-more n list h w zero = h
+words-more n list h w (suc i) = w i
+
+words-take : (k : ℕ) (list : List ℕ) → Words list → Words (take k list)
+words-take zero list w i = omega arith
+words-take (suc k) [] w i = omega arith
+words-take (suc k) (n ∷ list) w zero = w 0
+words-take (suc k) (n ∷ list) w (suc i) = words-take k list (λ j. w (suc j)) i
+
+-- An operation that reads back: its code is known, and its cycles and its own fields are below 2^64
+pub record Writable (x : Numbers) : Type 0 where
+  pub known : x .code ≤ 7
+  pub small : Words (ownNumbers x)
+
+pub writable : (x : Numbers) → x .code ≤ 7 → x .cycles < 2 ^ 64 → x .a < 2 ^ 64 → x .b < 2 ^ 64 → x .c < 2 ^ 64 → x .d < 2 ^ 64
+    → Writable x
+writable x k n a b c d =
+    let none : Words [] = λ i. omega arith in
+    let two = words-more (x .c) (x .d ∷ []) c (words-more (x .d) [] d none) in
+    let four = words-more (x .a) (x .b ∷ x .c ∷ x .d ∷ []) a (words-more (x .b) (x .c ∷ x .d ∷ []) b two) in
+    let own = words-take (fieldCount (x .code)) (x .a ∷ x .b ∷ x .c ∷ x .d ∷ []) four in
+    record { known = k; small = words-more (x .cycles) (take (fieldCount (x .code)) (x .a ∷ x .b ∷ x .c ∷ x .d ∷ [])) n own }
+
+past : (s : List ℕ) (at : ℕ) (xs b : List ℕ) → drop at s ≡ xs ++ b → drop (at + length xs) s ≡ b
+past s at xs b e = sym (drop-drop (length xs) at s) ∙ ap (drop (length xs)) e ∙ drop-append-seam xs b
+
+-- Several numbers, written, read back
+read-all : (list s : List ℕ) (at : ℕ) (b : List ℕ) → Words list → drop at s ≡ bytesOfAll list ++ b
+    → numbersAt (length list) s at ≡ got list (at + length (bytesOfAll list))
+unfolding numbersAt bytesOfAll
+read-all [] s at b w e = rw add-zero
+read-all (n ∷ list) s at b w e =
+    let front : drop at s ≡ bytesOf n ++ (bytesOfAll list ++ b) = e ∙ append-assoc (bytesOf n) (bytesOfAll list) b in
+    let first = read-written s at n (bytesOfAll list ++ b) (w 0) front in
+    let rest = read-all list s (at + length (bytesOf n)) b (λ i. w (suc i)) (past s at (bytesOf n) (bytesOfAll list ++ b) front) in
+    rw (first, rest, length-append, add-assoc)
+
+own-length : (x : Numbers) → length (ownNumbers x) ≡ suc (fieldCount (x .code))
+own-length x = ap suc (length-take-le (fieldCount (x .code)) (x .a ∷ x .b ∷ x .c ∷ x .d ∷ []) (fields-at-most (x .code) .0))
+
+pub read-written-operation : (s : List ℕ) (at : ℕ) (x : Numbers) (b : List ℕ) → Writable x → drop at s ≡ operationBytes x ++ b
+    → operationAt s at ≡ Operation (ownFields x) (at + length (operationBytes x))
+unfolding operationAt operationBytes bytesOfAll
+read-written-operation s at x b w e =
+    let own = bytesOfAll (ownNumbers x) in
+    let front : drop at s ≡ bytesOf (x .code) ++ (own ++ b) = e ∙ append-assoc (bytesOf (x .code)) own b in
+    let first = read-written s at (x .code) (own ++ b) (omega arith) front in
+    let rest = read-all (ownNumbers x) s (at + length (bytesOf (x .code))) b (w .small) (past s at (bytesOf (x .code)) (own ++ b) front) in
+    rw (first, le-ltb 7 (x .code) (w .known), ← own-length x, rest, length-append (bytesOf (x .code)) own, add-assoc)
+
+-- Several numbers that were read
+record ReadAll (k : ℕ) (s : List ℕ) (at : ℕ) (list : List ℕ) (next : ℕ) : Type 0 where
+  count : length list ≡ k
+  small : Words list
+  place : next ≡ at + length (bytesOfAll list)
+  bytes : drop at s ≡ bytesOfAll list ++ drop next s
+  within : next ≤ length s
+
+never : {A : Type 0} → _≡_ {A = ℕ} 0 1 → A
+never e = absurd (omega arith)
+
+front-inv : (n : ℕ) (r : Several) (list : List ℕ) (next : ℕ) → inFront n r ≡ got list next
+    → (l : List ℕ) × (r ≡ got l next) × (list ≡ n ∷ l)
+front-inv n (got l p) list next e = (l, cc, cc)
+front-inv n (bad p) list next e = never (cc)
+
+then-inv : (rest : ℕ → Several) (at : ℕ) (f : Found) (list : List ℕ) (next : ℕ) → thenRead rest at f ≡ got list next
+    → (n : ℕ) × (p : ℕ) × (f ≡ Value n p) × (inFront n (rest p) ≡ got list next)
+then-inv rest at (Value n p) list next e = (n, p, refl, e)
+then-inv rest at Malformed list next e = never (cc)
+then-inv rest at Ended list next e = never (cc)
+
+reads-all : (k : ℕ) (s : List ℕ) (at : ℕ) (list : List ℕ) (next : ℕ) → Bytes s → at ≤ length s
+    → numbersAt k s at ≡ got list next → ReadAll k s at list next
+unfolding numbersAt bytesOfAll
+reads-all zero s at list next h f e =
+    let none : [] ≡ list = cc in
+    let same : at ≡ next = cc in
+    rw (← none, ← same)
+    (record { count = refl; small = λ i. omega arith; place = sym (add-zero at); bytes = refl; within = f })
+reads-all (suc k) s at list next h f e =
+    let i = then-inv (numbersAt k s) at (numberAt s at) list next e in
+    let one = what-reads s at (i .0) (i .1) h (i .2) in
+    let j = front-inv (i .0) (numbersAt k s (i .1)) list next (i .3) in
+    let more = reads-all k s (i .1) (j .0) next h (one .within) (j .1) in
+    let sum = length-append (bytesOf (i .0)) (bytesOfAll (j .0)) in
+    rw (j .2)
+    (record {
+      count = ap suc (more .count);
+      small = words-more (i .0) (j .0) (one .small) (more .small);
+      place = omega arith;
+      bytes = one .bytes ∙ ap (λ (r : List ℕ). bytesOf (i .0) ++ r) (more .bytes) ∙ sym (append-assoc (bytesOf (i .0)) (bytesOfAll (j .0)) (drop next s));
+      within = more .within;
+    })
+
+-- Of up to four numbers, with 0 after them, as many as there were
+take-back : (l : List ℕ) → length l ≤ 4 → take (length l) (getD l 0 0 ∷ getD l 1 0 ∷ getD l 2 0 ∷ getD l 3 0 ∷ []) ≡ l
+take-back [] h = refl
+take-back (a ∷ []) h = refl
+take-back (a ∷ b ∷ []) h = refl
+take-back (a ∷ b ∷ c ∷ []) h = refl
+take-back (a ∷ b ∷ c ∷ d ∷ []) h = refl
+take-back (a ∷ b ∷ c ∷ d ∷ e ∷ l) h = absurd (omega arith)
+
+own-back : (code : ℕ) (list : List ℕ) → length list ≡ suc (fieldCount code) → ownNumbers (numbersOf code list) ≡ list
+own-back code [] e = never (omega arith)
+own-back code (n ∷ l) e =
+    let count : fieldCount code ≡ length l = omega arith in
+    ap (λ (r : List ℕ). n ∷ r) (rw count (take-back l (omega (arith, fields-at-most code))))
+
+-- An operation that was read
+pub record ReadOperation (s : List ℕ) (at : ℕ) (x : Numbers) (next : ℕ) : Type 0 where
+  pub again : Writable x
+  pub own : x ≡ ownFields x
+  pub place : next ≡ at + length (operationBytes x)
+  pub bytes : drop at s ≡ operationBytes x ++ drop next s
+  pub further : at < next
+  pub within : next ≤ length s
+
+fields-inv : (code : ℕ) (r : Several) (x : Numbers) (next : ℕ) → withFields code r ≡ Operation x next
+    → (list : List ℕ) × (r ≡ got list next) × (numbersOf code list ≡ x)
+fields-inv code (got list p) x next e = (list, cc, cc)
+fields-inv code (bad p) x next e = never (cc)
+
+code-inv : (s : List ℕ) (at : ℕ) (f : Found) (x : Numbers) (next : ℕ) → afterCode s at f ≡ Operation x next
+    → (code : ℕ) × (p : ℕ) × (f ≡ Value code p) × (code ≤ 7)
+    × (withFields code (numbersAt (suc (fieldCount code)) s p) ≡ Operation x next)
+code-inv s at (Value code p) x next e =
+    ⊎-elim (λ g. let v = rw (lt-ltb 7 code g) at e in never (cc))
+    (λ l. (code, p, refl, l, rw (le-ltb 7 code l) at e))
+    (below-or-not 7 code)
+code-inv s at Malformed x next e = never (cc)
+code-inv s at Ended x next e = never (cc)
+
+read-bytes : (code : ℕ) (list : List ℕ) → length list ≡ suc (fieldCount code)
+    → operationBytes (numbersOf code list) ≡ bytesOf code ++ bytesOfAll list
+unfolding operationBytes bytesOfAll
+read-bytes code list e = ap (λ (l : List ℕ). bytesOf code ++ bytesOfAll l) (own-back code list e)
+
+was-read : (s : List ℕ) (at code p : ℕ) (list : List ℕ) (next : ℕ) → Bytes s → numberAt s at ≡ Value code p → code ≤ 7
+    → numbersAt (suc (fieldCount code)) s p ≡ got list next → ReadOperation s at (numbersOf code list) next
+was-read s at code p list next h e k v =
+    let one = what-reads s at code p h e in
+    let more = reads-all (suc (fieldCount code)) s p list next h (one .within) v in
+    let own = own-back code list (more .count) in
+    let same = read-bytes code list (more .count) in
+    let sum = length-append (bytesOf code) (bytesOfAll list) in
+    record {
+      again = record { known = k; small = subst Words (sym own) (more .small) };
+      own = ap (numbersOf code) (sym own);
+      place = rw same (omega arith);
+      bytes = rw same (one .bytes ∙ ap (λ (r : List ℕ). bytesOf code ++ r) (more .bytes) ∙ sym (append-assoc (bytesOf code) (bytesOfAll list) (drop next s)));
+      further = omega arith;
+      within = more .within;
+    }
+
+pub what-was-read : (s : List ℕ) (at : ℕ) (x : Numbers) (next : ℕ) → Bytes s → operationAt s at ≡ Operation x next
+    → ReadOperation s at x next
+unfolding operationAt
+what-was-read s at x next h e =
+    let i = code-inv s at (numberAt s at) x next e in
+    let j = fields-inv (i .0) (numbersAt (suc (fieldCount (i .0))) s (i .1)) x next (i .4) in
+    rw (← j .2) (was-read s at (i .0) (i .1) (j .0) next h (i .2) (i .3) (j .1))
+
+-- A recording that was written from operations holds them, with nothing left over
+abbrev pub AllWritable : List Numbers → Type 0
+AllWritable [] = Unit {0}
+AllWritable (x ∷ list) = Writable x × AllWritable list
+
+some-bytes : (x : Numbers) → 1 ≤ length (operationBytes x)
+unfolding operationBytes bytesOfAll
+some-bytes x = omega (arith, length-of (x .code), length-append (bytesOf (x .code)) (bytesOfAll (ownNumbers x)))
+
+bytes-enough : (list : List Numbers) → length list ≤ length (recordingBytes list)
+unfolding recordingBytes
+bytes-enough [] = omega arith
+bytes-enough (x ∷ list) =
+    omega (arith, bytes-enough list, some-bytes x, length-append (operationBytes x) (recordingBytes list))
+
+holds-from : (k : ℕ) (list : List Numbers) (s : List ℕ) (at : ℕ) → AllWritable list → length list ≤ k
+    → drop at s ≡ recordingBytes list → contentsFrom k s at ≡ record { operations = map ownFields list; refusal = 0 }
+unfolding recordingBytes contentsFrom
+holds-from zero [] s at w h e = refl
+holds-from zero (x ∷ list) s at w h e = absurd (omega arith)
+holds-from (suc k) [] s at w h e =
+    let sizes = simp length-drop at (ap length e) in
+    rw (le-leb (length s) at (omega arith))
+holds-from (suc k) (x ∷ list) s at w h e =
+    let sizes = simp (length-drop, length-append) at (ap length e) in
+    let some = some-bytes x in
+    let first = read-written-operation s at x (recordingBytes list) (w .0) e in
+    let rest = holds-from k list s (at + length (operationBytes x)) (w .1) (omega arith) (past s at (operationBytes x) (recordingBytes list) e) in
+    rw (lt-leb (length s) at (omega arith), first, rest)
+
+pub list-round-trip : (list : List Numbers) → AllWritable list
+    → contentsOf (recordingBytes list) ≡ record { operations = map ownFields list; refusal = 0 }
+unfolding contentsOf
+list-round-trip list w =
+    holds-from (length (recordingBytes list)) list (recordingBytes list) 0 w (bytes-enough list) refl
+
+-- A recording that reads to the end of input is what its operations are written as
+and-inv : (rest : ℕ → Contents) (r : Reading) (list : List Numbers) → andThen rest r ≡ record { operations = list; refusal = 0 }
+    → (x : Numbers) × (next : ℕ) × (r ≡ Operation x next) × (list ≡ x ∷ rest next .operations) × (rest next .refusal ≡ 0)
+and-inv rest (Operation x next) list e = (x, next, refl, sym (ap (λ (c : Contents). c .operations) e), ap (λ (c : Contents). c .refusal) e)
+and-inv rest (Reading.Malformed place) list e = never (sym (ap (λ (c : Contents). c .refusal) e))
+and-inv rest (UnknownCode place) list e = absurd (omega (arith, ap (λ (c : Contents). c .refusal) e))
+
+at-end : (s : List ℕ) (at : ℕ) (list : List Numbers) → length s ≤ at → stopped 0 ≡ record { operations = list; refusal = 0 }
+    → AllWritable list × (drop at s ≡ recordingBytes list)
+unfolding recordingBytes
+at-end s at list f e =
+    let none : [] ≡ list = ap (λ (c : Contents). c .operations) e in
+    rw (← none) (tt, drop-of-length-le s f)
+
+reads-from : (k : ℕ) (s : List ℕ) (at : ℕ) (list : List Numbers) → Bytes s → length s ≤ at + k
+    → contentsFrom k s at ≡ record { operations = list; refusal = 0 } → AllWritable list × (drop at s ≡ recordingBytes list)
+unfolding recordingBytes contentsFrom
+reads-from zero s at list h f e = at-end s at list (omega arith) e
+reads-from (suc k) s at list h f e =
+    ⊎-elim (λ l.
+    let i = and-inv (contentsFrom k s) (operationAt s at) list (rw (lt-leb (length s) at l) at e) in
+    let one = what-was-read s at (i .0) (i .1) h (i .2) in
+    let rest : List Numbers = contentsFrom k s (i .1) .operations in
+    let same : contentsFrom k s (i .1) ≡ record { operations = rest; refusal = 0 } = ap (λ (n : ℕ). record { operations = rest; refusal = n }) (i .4) in
+    let more = reads-from k s (i .1) rest h (omega arith) same in
+    rw (i .3) ((one .again, more .0), one .bytes ∙ ap (λ (b : List ℕ). operationBytes (i .0) ++ b) (more .1)))
+    (λ g. at-end s at list g (rw (le-leb (length s) at g) at e))
+    (below-or-not at (length s))
+
+pub whole-recording : (s : List ℕ) (list : List Numbers) → Bytes s → contentsOf s ≡ record { operations = list; refusal = 0 }
+    → AllWritable list × (s ≡ recordingBytes list)
+unfolding contentsOf
+whole-recording s list h e = reads-from (length s) s 0 list h (omega arith) e
+
+-- A branch and a BRB IALL with numbers beyond its fields; a code of 8 whose cycles are cut off; a read without its register
+operation : ℕ → ℕ → ℕ → ℕ → ℕ → ℕ → Numbers
+operation code cycles a b c d = record { code = code; cycles = cycles; a = a; b = b; c = c; d = d }
+
+examples : (contentsOf (recordingBytes (operation 1 300 8 1 4112 4096 ∷ operation 7 5 9 9 9 9 ∷ []))
+    ≡ record { operations = operation 1 300 8 1 4112 4096 ∷ operation 7 5 0 0 0 0 ∷ []; refusal = 0 })
+    × (contentsOf (7 ∷ 0 ∷ 8 ∷ 0x80 ∷ []) ≡ record { operations = operation 7 0 0 0 0 0 ∷ []; refusal = 2 })
+    × (contentsOf (7 ∷ 0 ∷ 5 ∷ 0 ∷ []) ≡ record { operations = operation 7 0 0 0 0 0 ∷ []; refusal = 1 })
+unfolding numberIn numberAt bytesIn bytesOf fieldCount numbersAt operationAt bytesOfAll operationBytes recordingBytes contentsFrom contentsOf operation
+examples = (refl, refl, refl)

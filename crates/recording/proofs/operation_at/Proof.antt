@@ -1,0 +1,26 @@
+-- Reading an operation, as defined: the code decides first.
+use native.Mathlib.Omega.{arith}
+use borrow.Author.Needs.{needs}
+use borrow.Author.Tests.{lt-ltb, le-ltb}
+use Rattle.recording.specs.Recording.{operationAt}
+use Rattle.recording.proofs.Cases.{no-value}
+use Rattle.recording.proofs.operation_at.Statement.{statement}
+use Rattle.recording.proofs.operation_at.Tie as tie
+
+pub operation-at-spec : {M : Type 1} → statement M
+unfolding operationAt
+operation-at-spec =
+    tie.close
+    (tie.spec
+    (λ _ _. tt)
+    (λ c. search needs)
+    (λ c.
+    let r = c .before .number-at in
+    no-value (r .result) (c .match .keys2) (λ m. rw (← r .ensures, m)) (λ m. rw (← r .ensures, m)))
+    (λ c.
+    let v = c .before .before .code .given in
+    rw (← c .before .before .before .before .number-at .ensures, v .1, lt-ltb 7 (v .0 .0) (omega arith)))
+    (λ c κs. omega arith)
+    (λ c.
+    let v = c .before .before .before .code .given in
+    rw (← c .before .before .before .before .before .number-at .ensures, v .1, le-ltb 7 (v .0 .0) (omega arith), c .fields-at .ensures)))
