@@ -73,6 +73,41 @@ uint64_t brb_count_encode(uint64_t count);
  * the count exceeded the counter (0x3FFF); number 4 with 0 where no count has this encoding. */
 struct brb_answer brb_count_decode(uint64_t cc);
 
+/* Recordings: operations one after another, each a code, its cycles and its fields. A number is in groups of seven bits,
+ * low group first, top bit set when more follow, at most ten bytes, in its shortest form. */
+
+/* How many numbers an operation is read into: code, cycles, a, b, c, d. */
+#define BRB_OPERATION_NUMBERS 6
+
+/* How many bytes an operation has at most. */
+#define BRB_OPERATION_BYTES 60
+
+/* The operation at position `at` of a recording, into `place`: code, cycles, then its fields, and 0 for those that it has
+ * not. Answers 0 and the position after it; or 6 where `place` has fewer than BRB_OPERATION_NUMBERS (checked first), 1
+ * where a number is malformed or the input ends inside the operation, 2 where the code is above 7, each with the value 0
+ * and `place` as it was. Numbers of `place` past the six are never written. */
+struct brb_answer brb_recording_read(const uint8_t *bytes, size_t length, size_t at, uint64_t *place,
+                                     size_t place_numbers);
+
+/* An operation at position `at` of lent bytes. Answers 0 and the number of bytes written; or 2 where the code is above 7,
+ * then 6 where the operation has no room there, each with the value 0 and no byte written. Nothing else is checked: any
+ * numbers are written. Bytes before and past the operation are never written. */
+struct brb_answer brb_recording_write(uint8_t *bytes, size_t length, size_t at, uint64_t code, uint64_t cycles,
+                                      uint64_t a, uint64_t b, uint64_t c, uint64_t d);
+
+struct brb_recorded {
+    uint64_t number;
+    uint64_t value;
+    uint64_t next;
+};
+
+/* One operation of a recording: 7 first, with nothing read (`next` is `at`); then the operation is read, 1 or 2 (`next` is
+ * where the bad number starts); then it is stepped as brb_step does (`next` is the position after it). After 7, 1 or 2
+ * reading stops, after another refusal it goes on. At the end of the input the answer is 1: a host that replays a
+ * recording stops before it. */
+struct brb_recorded brb_step_recorded(uint64_t *state, size_t state_numbers, uint64_t *room, size_t room_numbers,
+                                      const uint8_t *bytes, size_t length, size_t at);
+
 #ifdef __cplusplus
 }
 #endif

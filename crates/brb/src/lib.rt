@@ -3,8 +3,16 @@
 ghost use mathlib.Core.Path.{_≡_};
 ghost use Rattle.count.specs.Count.{encoded, decoded};
 ghost use Rattle.brb.specs.Face.{leaves, stepLeaves, decodeAnswer};
+ghost use Rattle.brb.specs.Recordings.{readLeft, readLeaves, writeAnswer, recordedLeft, recordedLeaves};
+ghost use Rattle.recording.specs.Recording.{writingOf, writtenOperation};
 use operation::operation_of;
 use recorder::step;
+use recording::Numbers;
+use recording::Reading;
+use recording::operation_at;
+use recording::recorded_step;
+use recording::store_numbers;
+use recording::write_operation;
 use state::Loaded;
 use state::load;
 use state::store;
@@ -79,5 +87,104 @@ pub extern "C" fn brb_count_decode(cc: u64) -> BrbAnswer
     BrbAnswer {
         number: decoded.number(),
         value: decoded.value(),
+    }
+}
+
+// What a recorded step answers, and where reading goes on.
+#[repr(C)]
+pub struct BrbRecorded {
+    pub number: u64,
+    pub value: u64,
+    pub next: u64,
+}
+
+// The operation at a place of a recording, as six numbers in a lent place.
+#[no_mangle]
+pub extern "C" fn brb_recording_read(bytes: &[u8], at: usize, place: &mut [u64]) -> BrbAnswer
+    ensures { λ r. ⌜ readLeft r (now (place .exit)) ≡ readLeaves (now (bytes .entry)) at (now (place .entry)) ⌝ }
+{
+    if place.len() < 6 {
+        return BrbAnswer {
+            number: 6,
+            value: 0,
+        };
+    }
+    match operation_at(bytes, at) {
+        Reading::Operation(x, next) => {
+            store_numbers(place, x);
+            BrbAnswer {
+                number: 0,
+                value: next as u64,
+            }
+        }
+        Reading::Malformed(_) => BrbAnswer {
+            number: 1,
+            value: 0,
+        },
+        Reading::UnknownCode(_) => BrbAnswer {
+            number: 2,
+            value: 0,
+        },
+    }
+}
+
+// An operation at a place of lent bytes.
+#[no_mangle]
+pub extern "C" fn brb_recording_write(
+    bytes: &mut [u8],
+    at: usize,
+    code: u64,
+    cycles: u64,
+    a: u64,
+    b: u64,
+    c: u64,
+    d: u64,
+) -> BrbAnswer
+    ensures { λ r. ⌜ r ≡ writeAnswer (writingOf (record { code = code; cycles = cycles; a = a; b = b; c = c; d = d }) at (now (bytes .entry))) ⌝ }
+    ensures { λ _. ⌜ now (bytes .exit) ≡ writtenOperation (record { code = code; cycles = cycles; a = a; b = b; c = c; d = d }) at (now (bytes .entry)) ⌝ }
+{
+    let x = Numbers {
+        code,
+        cycles,
+        a,
+        b,
+        c,
+        d,
+    };
+    let wrote = write_operation(bytes, at, x);
+    BrbAnswer {
+        number: wrote.number(),
+        value: wrote.value(),
+    }
+}
+
+// One operation of a recording. The state is loaded and judged first, so that after 7 nothing was read.
+#[no_mangle]
+pub extern "C" fn brb_step_recorded(
+    state: &mut [u64],
+    room: &mut [u64],
+    bytes: &[u8],
+    at: usize,
+) -> BrbRecorded
+    ensures { λ r. ⌜ recordedLeft r (now (state .exit)) (now (room .exit)) ≡ recordedLeaves (now (state .entry)) (now (room .entry)) (now (bytes .entry)) at ⌝ }
+{
+    let loaded = load(&state[..]);
+    match loaded {
+        Loaded::Held(s) => {
+            let replayed = recorded_step(s, room, bytes, at);
+            let answer = replayed.answer;
+            let after = replayed.state;
+            store(state, after);
+            BrbRecorded {
+                number: answer.number(),
+                value: answer.value(),
+                next: replayed.next as u64,
+            }
+        }
+        Loaded::Unsound => BrbRecorded {
+            number: 7,
+            value: 0,
+            next: at as u64,
+        },
     }
 }

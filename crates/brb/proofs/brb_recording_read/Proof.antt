@@ -1,0 +1,22 @@
+-- An operation read into a lent place, as defined: the place is judged first.
+use borrow.Author.Needs.{needs}
+use borrow.Author.Tests.{lt-ltb, le-ltb}
+use Rattle.brb.specs.Recordings.{readLeaves}
+use Rattle.brb.proofs.brb_recording_read.Statement.{statement}
+use Rattle.brb.proofs.brb_recording_read.Tie as tie
+
+pub brb-recording-read-spec : {M : Type 1} → statement M
+unfolding readLeaves
+brb-recording-read-spec =
+    tie.close
+    (tie.spec
+    (λ c. rw (lt-ltb _ _ (c .if1 .taken)))
+    (λ _ _. tt)
+    (λ c. search needs)
+    (λ _ _. tt)
+    (λ c. search needs)
+    (λ c. search needs)
+    (λ c. search needs)
+    (λ c. rw (le-ltb _ _ (c .before .before .before .before .before .before .before .before .if1 .left), ← c .before .before .before .before .before .before .before .operation-at .ensures, c .before .before .before .before .before .x .given .1, c .before .before .store-numbers .ensures))
+    (λ c. rw (le-ltb _ _ (c .before .before .before .if1 .left), ← c .before .before .operation-at .ensures, c .enum-told .given .1))
+    (λ c. rw (le-ltb _ _ (c .before .before .before .if1 .left), ← c .before .before .operation-at .ensures, c .enum-told2 .given .1)))
