@@ -2,7 +2,6 @@
 use Prim.Native.Nat.{ℕ}
 use mathlib.Core.List.{List}
 use Rattle.count.specs.declared.Decoded.{Decoded}
-use Rattle.count.specs.Count.{decoded}
 use Rattle.count.specs.Count as Count
 use Rattle.recorder.specs.Step.{numberOf, valueOf}
 use Rattle.recorder.specs.Lent.{Lent, lentStep}

@@ -8,11 +8,10 @@ use Rattle.state.specs.declared.Loaded.{Loaded}
 use Rattle.state.specs.declared.Loaded.the-variants.{Held, Unsound}
 use Rattle.state.specs.Words.{stored, loaded}
 use Rattle.recorder.specs.Step.{numberOf, valueOf}
-use Rattle.recording.specs.declared.Numbers.{Numbers}
 use Rattle.recording.specs.declared.Reading.{Reading}
 use Rattle.recording.specs.declared.Reading.the-variants.{Operation, Malformed, UnknownCode}
 use Rattle.recording.specs.declared.Writing.{Writing}
-use Rattle.recording.specs.Recording.{operationAt, numberOfWriting, valueOfWriting, writingOf, writtenOperation}
+use Rattle.recording.specs.Recording.{operationAt, numberOfWriting, valueOfWriting}
 use Rattle.recording.specs.Operations.{storedNumbers}
 use Rattle.recording.specs.RecordedStep.{Recorded, recordedStep}
 use Rattle.brb.specs.declared.BrbAnswer.{BrbAnswer}

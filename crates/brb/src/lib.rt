@@ -6,16 +6,14 @@ ghost use Rattle.brb.specs.Face.{leaves, stepLeaves, decodeAnswer};
 ghost use Rattle.brb.specs.Recordings.{readLeft, readLeaves, writeAnswer, recordedLeft, recordedLeaves};
 ghost use Rattle.recording.specs.Recording.{writingOf, writtenOperation};
 use operation::operation_of;
-use recorder::step;
+use recorder::lent_step;
 use recording::Numbers;
 use recording::Reading;
 use recording::operation_at;
-use recording::recorded_step;
 use recording::store_numbers;
 use recording::write_operation;
 use state::Loaded;
 use state::load;
-use state::store;
 
 // An answer as document 01's numbers.
 #[repr(C)]
@@ -24,7 +22,7 @@ pub struct BrbAnswer {
     pub value: u64,
 }
 
-// One operation. The state is loaded and judged first, so that refusal 7 comes before all others.
+// One operation.
 #[no_mangle]
 pub extern "C" fn brb_step(
     state: &mut [u64],
@@ -38,22 +36,10 @@ pub extern "C" fn brb_step(
 ) -> BrbAnswer
     ensures { λ r. ⌜ leaves r (now (state .exit)) (now (room .exit)) ≡ stepLeaves (now (state .entry)) code cycles a b c d (now (room .entry)) ⌝ }
 {
-    let loaded = load(&state[..]);
-    match loaded {
-        Loaded::Held(s) => {
-            let stepped = step(s, room, operation_of(code, a, b, c, d), cycles);
-            let answer = stepped.answer;
-            let after = stepped.state;
-            store(state, after);
-            BrbAnswer {
-                number: answer.number(),
-                value: answer.value(),
-            }
-        }
-        Loaded::Unsound => BrbAnswer {
-            number: 7,
-            value: 0,
-        },
+    let answer = lent_step(state, room, operation_of(code, a, b, c, d), cycles);
+    BrbAnswer {
+        number: answer.number(),
+        value: answer.value(),
     }
 }
 
@@ -169,22 +155,32 @@ pub extern "C" fn brb_step_recorded(
     ensures { λ r. ⌜ recordedLeft r (now (state .exit)) (now (room .exit)) ≡ recordedLeaves (now (state .entry)) (now (room .entry)) (now (bytes .entry)) at ⌝ }
 {
     let loaded = load(&state[..]);
-    match loaded {
-        Loaded::Held(s) => {
-            let replayed = recorded_step(s, room, bytes, at);
-            let answer = replayed.answer;
-            let after = replayed.state;
-            store(state, after);
-            BrbRecorded {
-                number: answer.number(),
-                value: answer.value(),
-                next: replayed.next as u64,
-            }
-        }
-        Loaded::Unsound => BrbRecorded {
+    let Loaded::Held(_) = loaded else {
+        return BrbRecorded {
             number: 7,
             value: 0,
             next: at as u64,
+        };
+    };
+    match operation_at(bytes, at) {
+        Reading::Operation(x, next) => {
+            let o = operation_of(x.code, x.a, x.b, x.c, x.d);
+            let answer = lent_step(state, room, o, x.cycles);
+            BrbRecorded {
+                number: answer.number(),
+                value: answer.value(),
+                next: next as u64,
+            }
+        }
+        Reading::Malformed(place) => BrbRecorded {
+            number: 1,
+            value: 0,
+            next: place as u64,
+        },
+        Reading::UnknownCode(place) => BrbRecorded {
+            number: 2,
+            value: 0,
+            next: place as u64,
         },
     }
 }

@@ -2,19 +2,16 @@
 -- number."
 use Prim.Native.Nat.{ℕ, _≤_}
 use mathlib.Core.Path.{_≡_, refl}
-use mathlib.Core.Bool.{Bool, true, false, _&&_}
+use mathlib.Core.Bool.{Bool, true, false}
 use mathlib.Core.List.{List, [], _∷_}
 use native.Mathlib.Omega.{arith}
 use native.Mathlib.Decide.{ℕ-discrete}
-use lib.Dec.{leb}
 use lib.ListN.{length}
-use Rattle.bits.proofs.Cases.{never}
 use Rattle.state.specs.declared.State.{State}
 use Rattle.state.specs.declared.Loaded.{Loaded}
 use Rattle.state.specs.declared.Loaded.the-variants.{Held, Unsound}
-use Rattle.state.specs.Sound.{sound}
-use Rattle.state.specs.Words.{stateNumbers, stateOf, loaded}
-use Rattle.state.proofs.Laws.{stored-loaded}
+use Rattle.state.specs.Words.{loaded}
+use Rattle.state.proofs.Laws.{stored-loaded, held}
 use Rattle.access.specs.declared.Outcome.{Outcome}
 use Rattle.access.specs.declared.Outcome.the-variants.{Performed, Undefined, Trap2, Trap3}
 use Rattle.access.specs.Access.{readOutcome, writeOutcome, iallOutcome}
@@ -88,15 +85,6 @@ refusal-answered s o cycles room l u = go (ℕ-discrete (refusalOf s o (length r
         absurd (no-refusal (accepted-number s o room) (rw e at l) (rw e at u))
     go (no h) = refused-step s o cycles room h
 
--- A state that was loaded is the one that the lent numbers hold.
-held : (words : List ℕ) (s : State) → loaded words ≡ Held s → s ≡ stateOf words
-unfolding loaded
-held words s e = go (leb stateNumbers (length words) && sound (stateOf words)) refl
-  where
-    go : (t : Bool) → (leb stateNumbers (length words) && sound (stateOf words)) ≡ t → s ≡ stateOf words
-    go true h = cc (rw h at e)
-    go false h = never (cc (rw h at e))
-
 -- `refused-changes-nothing`: whatever is lent and handed in, if the number is 1 to 7, then every state number and every room
 -- number is as it was, and the value is 0.
 pub refused-changes-nothing : (words room : List ℕ) (code cycles a b c d : ℕ)
@@ -112,4 +100,4 @@ refused-changes-nothing words room code cycles a b c d l u = go (loaded words) r
         ≡ leaves (record { number = stepLeaves words code cycles a b c d room .answer .number; value = 0 }) words room
     go Unsound e = rw e
     go (Held s) e =
-        rw (e, refusal-answered s (operationOf code a b c d) cycles room (rw e at l) (rw e at u), held words s e, stored-loaded words)
+        rw (e, refusal-answered s (operationOf code a b c d) cycles room (rw e at l) (rw e at u), held words s e .0, stored-loaded words)

@@ -15,6 +15,9 @@ pub record Lent : Type 0 where
   pub state : List ℕ
   pub room : List ℕ
 
+abbrev pub lent : Answer → List ℕ → List ℕ → Lent
+lent answer state room = record { answer = answer; state = state; room = room }
+
 -- The step of what lent numbers hold. Refusal 7 comes first, also for "lent memory too short to hold it".
 abbrev pub lentStepOf : List ℕ → Operation → ℕ → List ℕ → Loaded → Lent
 lentStepOf words o cycles room (Held s) =

@@ -2,6 +2,8 @@
 ghost use mathlib.Core.Path.{_≡_};
 ghost use Rattle.recorder.specs.Step.{numberOf, valueOf, answered, answerOf, accepted, stepOf};
 ghost use Rattle.recorder.specs.Both.{both};
+ghost use Rattle.recorder.specs.Lent.{lent, lentStepOf};
+ghost use Rattle.state.specs.Words.{loaded};
 use access::Outcome;
 use access::iall_outcome;
 use access::meant;
@@ -15,7 +17,10 @@ use change::running_after;
 use operation::Operation;
 use operation::refusal;
 use room::apply;
+use state::Loaded;
 use state::State;
+use state::load;
+use state::store;
 
 // What a step answers.
 pub enum Answer {
@@ -147,5 +152,22 @@ pub fn step(s: State, room: &mut [u64], o: Operation, cycles: u64) -> Stepped
             answer: Answer::Refused(number),
             state: s,
         }
+    }
+}
+
+// The same on a state that is lent as numbers: it is loaded and judged first, and stored where the step left it.
+pub fn lent_step(words: &mut [u64], room: &mut [u64], o: Operation, cycles: u64) -> Answer
+    ensures { λ r. ⌜ lent r (now (words .exit)) (now (room .exit)) ≡ lentStepOf (now (words .entry)) o cycles (now (room .entry)) (loaded (now (words .entry))) ⌝ }
+{
+    let loaded = load(&words[..]);
+    match loaded {
+        Loaded::Held(s) => {
+            let stepped = step(s, room, o, cycles);
+            let answer = stepped.answer;
+            let after = stepped.state;
+            store(words, after);
+            answer
+        }
+        Loaded::Unsound => Answer::Refused(7),
     }
 }

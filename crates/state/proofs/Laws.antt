@@ -2,14 +2,19 @@
 use Prim.Native.Nat.{ℕ, _≤_, _<_}
 use mathlib.Core.Path.{_≡_, sym, _∙_}
 use mathlib.Core.List.{List}
-use mathlib.Core.Logic.{⊎-elim}
+use mathlib.Core.Bool.{true, false, _&&_}
+use mathlib.Core.Logic.{_⊎_, inl, inr, ⊎-elim}
 use native.Mathlib.Omega.{arith}
 use borrow.Author.Tests.{lt-leb, le-leb}
+use lib.Dec.{leb}
 use lib.ListN.{length}
 use lib.Seq.{sets-eq, set-getD}
-use Rattle.bits.proofs.Cases.{below-or-not}
+use Rattle.bits.proofs.Cases.{below-or-not, either, never}
+use Rattle.bits.proofs.Each.{second}
 use Rattle.state.specs.declared.State.{State}
-use Rattle.state.specs.Words.{stateOf, wordsOf, stored}
+use Rattle.state.specs.declared.Loaded.the-variants.{Held}
+use Rattle.state.specs.Sound.{sound}
+use Rattle.state.specs.Words.{stateNumbers, stateOf, wordsOf, stored, loaded}
 
 pub load-stored : (s : State) (w : List ℕ) → 9 ≤ length w → stateOf (stored s w) ≡ s
 unfolding stored
@@ -21,3 +26,15 @@ stored-loaded w =
     ⊎-elim (λ (few : length w < 9). rw (lt-leb 9 (length w) few))
     (λ (enough : 9 ≤ length w). rw (le-leb 9 (length w) enough) (sym (sets-eq (wordsOf (stateOf w)) w 0 (omega arith)) ∙ simp set-getD))
     (below-or-not (length w) 9)
+
+-- A state that was loaded is the one that the lent numbers hold, and it is sound.
+pub held : (w : List ℕ) (s : State) → loaded w ≡ Held s → (s ≡ stateOf w) × (sound s ≡ true)
+unfolding loaded
+held w s e = go (either (leb stateNumbers (length w) && sound (stateOf w)))
+  where
+    go : ((leb stateNumbers (length w) && sound (stateOf w)) ≡ true) ⊎ ((leb stateNumbers (length w) && sound (stateOf w)) ≡ false)
+        → (s ≡ stateOf w) × (sound s ≡ true)
+    go (inl h) =
+        let same : s ≡ stateOf w = cc (rw h at e) in
+        (same, rw same (second (leb stateNumbers (length w)) (sound (stateOf w)) h))
+    go (inr h) = never (cc (rw h at e))

@@ -1,5 +1,4 @@
 -- What a CC field says, as document 01's numbers.
-use borrow.Author.Needs.{needs}
 use Rattle.brb.proofs.brb_count_decode.Statement.{statement}
 use Rattle.brb.proofs.brb_count_decode.Tie as tie
 

@@ -1,7 +1,8 @@
--- One step on lent numbers, as defined: what the loaded state steps to is stored, or nothing is touched.
+-- One step on lent numbers, as document 01's numbers.
 use borrow.Author.Needs.{needs}
+use mathlib.Core.Path.{ap}
 use Rattle.recorder.specs.Lent.{lentStep}
-use Rattle.brb.specs.Face.{stepLeaves}
+use Rattle.brb.specs.Face.{left, stepLeaves}
 use Rattle.brb.proofs.brb_step.Statement.{statement}
 use Rattle.brb.proofs.brb_step.Tie as tie
 
@@ -11,15 +12,9 @@ brb-step-spec =
     tie.close
     (tie.spec
     (λ _ _. tt)
-    (λ c. search needs)
-    (λ _ _. tt)
-    (λ _ _. tt)
     (λ _ _. tt)
     (λ _ _. tt)
     (λ _ _. tt)
     (λ c. search needs)
     (λ c. search needs)
-    (λ c. search needs)
-    (λ c. rw (← c .before .before .before .before .before .before .before .before .before .before .before .before .before .before .before .load .ensures, c .before .before .before .before .before .before .before .before .before .before .before .before .before .loaded .given .1, ← c .before .before .before .before .before .before .before .before .before .before .operation-of .ensures, ← c .before .before .before .before .before .before .before .before .before .step .ensures, c .before .before .before .before .store .ensures, c .before .number .ensures, c .value .ensures))
-    (λ c. search needs)
-    (λ c. rw (← c .before .before .load .ensures, c .enum-told .given .1)))
+    (λ c. rw (c .before .number .ensures, c .value .ensures, ← c .before .before .before .before .before .before .before .operation-of .ensures) (ap left (c .before .before .before .before .before .before .lent-step .ensures))))

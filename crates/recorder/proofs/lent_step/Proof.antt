@@ -1,0 +1,19 @@
+-- The step on lent numbers, as defined: what the loaded state steps to is stored, or nothing is touched.
+use borrow.Author.Needs.{needs}
+use Rattle.recorder.proofs.lent_step.Statement.{statement}
+use Rattle.recorder.proofs.lent_step.Tie as tie
+
+pub lent-step-spec : {M : Type 1} → statement M
+lent-step-spec =
+    tie.close
+    (tie.spec
+    (λ _ _. tt)
+    (λ c. search needs)
+    (λ _ _. tt)
+    (λ _ _. tt)
+    (λ c. search needs)
+    (λ c. search needs)
+    (λ c. search needs)
+    (λ c. rw (← c .before .before .before .before .before .before .before .before .before .before .before .before .load .ensures, c .before .before .before .before .before .before .before .before .before .before .loaded .given .1, ← c .before .before .before .before .before .before .before .step .ensures, c .before .before .store .ensures))
+    (λ c. search needs)
+    (λ c. rw (← c .before .before .load .ensures, c .enum-told .given .1)))
