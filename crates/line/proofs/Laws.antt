@@ -1,11 +1,15 @@
 -- No line is longer than the longest.
-use Prim.Native.Nat.{_≤_}
+use Prim.Native.Nat.{ℕ, _+_, _≤_, _<_, max}
+use mathlib.Core.List.{List}
+use mathlib.Core.Logic.{⊎-elim}
 use native.Mathlib.Omega.{arith}
+use borrow.Author.Tests.{lt-leb, le-leb}
 use lib.ListN.{length, length-append}
+use Rattle.bits.proofs.Cases.{below-or-not}
 use Rattle.text.proofs.Laws.{length-hexadecimal, length-decimal}
 use Rattle.recorder.specs.declared.Answer.{Answer}
 use Rattle.recorder.specs.declared.Answer.the-variants.{Done, Value, Undefined, Trap2, Trap3, Refused}
-use Rattle.line.specs.Line.{lineOf, longestLine}
+use Rattle.line.specs.Line.{lineOf, longestLine, lineCount}
 
 pub length-line : (answer : Answer) → length (lineOf answer) ≤ longestLine
 unfolding lineOf
@@ -15,3 +19,11 @@ length-line Undefined = omega arith
 length-line Trap2 = omega arith
 length-line Trap3 = omega arith
 length-line (Refused n) = simp length-append (omega (arith, length-decimal n))
+
+-- What a line takes stays within the lent bytes.
+pub used-within : (out : List ℕ) (used : ℕ) (answer : Answer) → used + lineCount out used answer ≤ max used (length out)
+unfolding lineCount
+used-within out used answer =
+    ⊎-elim (λ (h : length out < used + longestLine). rw (lt-leb (used + longestLine) (length out) h) (omega arith))
+    (λ (h : used + longestLine ≤ length out). rw (le-leb (used + longestLine) (length out) h) (omega (arith, length-line answer)))
+    (below-or-not (length out) (used + longestLine))

@@ -3,8 +3,12 @@ ghost use mathlib.Core.Path.{_≡_};
 ghost use Prim.Native.Nat.{_+_, _≤_};
 ghost use lib.ListN.{length};
 ghost use Rattle.number.specs.Number.{written};
+ghost use Rattle.line.specs.Turn.{turned, turnOf};
 ghost use Rattle.line.specs.Line.{lineOf, longestLine, lineWritten, lineCount};
 use recorder::Answer;
+use recording::recorded_step;
+use recording::stops_reading;
+use state::State;
 use text::write_decimal;
 use text::write_hexadecimal;
 use text::write_text;
@@ -61,4 +65,39 @@ pub fn write_line(out: &mut [u8], at: usize, answer: Answer) -> usize
         return 0;
     }
     line_at(out, at, answer)
+}
+
+// Where a replay stands after an operation.
+pub struct Turn {
+    pub state: State,
+    // The place of the next operation, or of the bad number.
+    pub next: usize,
+    // How many of the lent bytes hold lines.
+    pub used: usize,
+    // Reading stops here.
+    pub stops: bool,
+}
+
+// One operation of a replay: the recorded step, and its line behind the `used` bytes that hold lines already.
+pub fn replay_one(
+    s: State,
+    room: &mut [u64],
+    bytes: &[u8],
+    at: usize,
+    out: &mut [u8],
+    used: usize,
+) -> Turn
+    ensures { λ r. ⌜ turned r (now (room .exit)) (now (out .exit)) ≡ turnOf s (now (room .entry)) (now (bytes .entry)) at (now (out .entry)) used ⌝ }
+{
+    let done = recorded_step(s, room, bytes, at);
+    let answer = done.answer;
+    let state = done.state;
+    let stops = stops_reading(answer);
+    let count = write_line(out, used, answer);
+    Turn {
+        state,
+        next: done.next,
+        used: used + count,
+        stops,
+    }
 }

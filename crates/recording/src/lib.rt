@@ -5,7 +5,7 @@ ghost use lib.ListN.{length, take};
 ghost use Rattle.number.specs.Number.{written};
 ghost use Rattle.recording.specs.Operations.{storedNumbers};
 ghost use Rattle.recording.specs.Recording.{fieldCount, numbersAt, withFields, operationAt, bytesOfAll, writtenOperation, writingOf, numberOfWriting, valueOfWriting};
-ghost use Rattle.recording.specs.RecordedStep.{recordedStep};
+ghost use Rattle.recording.specs.RecordedStep.{recordedStep, stopsReading};
 ghost use Rattle.recording.specs.Both.{both};
 use number::Found;
 use number::number_at;
@@ -245,4 +245,12 @@ pub fn store_numbers(place: &mut [u64], x: Numbers)
     place[3] = x.b;
     place[4] = x.c;
     place[5] = x.d;
+}
+
+// After 7, 1 or 2 reading stops; after another refusal it goes on.
+pub fn stops_reading(answer: Answer) -> bool
+    ensures { λ r. ⌜ r ≡ stopsReading answer ⌝ }
+{
+    let number = answer.number();
+    (number == 2) | (number == 1) | (number == 7)
 }
