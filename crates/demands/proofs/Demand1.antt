@@ -10,7 +10,7 @@ use lib.ListN.{length}
 use Rattle.state.specs.declared.State.{State}
 use Rattle.state.specs.declared.Loaded.{Loaded}
 use Rattle.state.specs.declared.Loaded.the-variants.{Held, Unsound}
-use Rattle.state.specs.Words.{loaded}
+use Rattle.state.specs.Words.{stored, loaded}
 use Rattle.state.proofs.Laws.{stored-loaded, held}
 use Rattle.access.specs.declared.Outcome.{Outcome}
 use Rattle.access.specs.declared.Outcome.the-variants.{Performed, Undefined, Trap2, Trap3}
@@ -23,7 +23,12 @@ use Rattle.recorder.specs.declared.Answer.{Answer}
 use Rattle.recorder.specs.Step.{numberOf, answered, answerOf, accepted, acceptedWith, refused, stepOf}
 use Rattle.recorder.proofs.Laws.{accepted-step, refused-step}
 use Rattle.recorder.specs.Lent.{lentStep}
+use Rattle.recording.specs.declared.Reading.{Reading}
+use Rattle.recording.specs.declared.Reading.the-variants.{Malformed, UnknownCode}
+use Rattle.recording.specs.Recording.{operationAt}
+use Rattle.recording.specs.RecordedStep.{recordedStep}
 use Rattle.brb.specs.Face.{leaves, stepLeaves}
+use Rattle.brb.specs.Recordings.{recordedLeft, recordedLeaves}
 use Rattle.demands.specs.First.{First, here, later, none}
 
 -- ---- refusal-exact: the number is that of the first line of the table whose condition holds, and 0 if none does
@@ -101,3 +106,50 @@ refused-changes-nothing words room code cycles a b c d l u = go (loaded words) r
     go Unsound e = rw e
     go (Held s) e =
         rw (e, refusal-answered s (operationOf code a b c d) cycles room (rw e at l) (rw e at u), held words s e .0, stored-loaded words)
+
+-- The same of a recorded step.
+pub refused-recorded : (words room bytes : List ℕ) (at : ℕ) → 1 ≤ recordedLeaves words room bytes at .answer .number
+    → recordedLeaves words room bytes at .answer .number ≤ 7
+    → recordedLeaves words room bytes at
+    ≡ recordedLeft
+    (record {
+      number = recordedLeaves words room bytes at .answer .number;
+      value = 0;
+      next = recordedLeaves words room bytes at .answer .next;
+    })
+    words
+    room
+unfolding recordedLeaves recordedStep
+refused-recorded words room bytes at l u = go (loaded words) refl
+  where
+    kept : (s : State) → loaded words ≡ Held s → stored s words ≡ words
+    kept s e = rw (held words s e .0) (stored-loaded words)
+
+    read : (s : State) → loaded words ≡ Held s → (found : Reading) → operationAt bytes at ≡ found
+        → recordedLeaves words room bytes at
+        ≡ recordedLeft
+        (record {
+          number = recordedLeaves words room bytes at .answer .number;
+          value = 0;
+          next = recordedLeaves words room bytes at .answer .next;
+        })
+        words
+        room
+    read s e (Reading.Operation x next) f =
+        let h = held words s e .1 in
+        rw (e, h, f, refusal-answered s (operationOf (x .code) (x .a) (x .b) (x .c) (x .d)) (x .cycles) room (rw (e, h, f) at l) (rw (e, h, f) at u), kept s e)
+    read s e (Malformed place) f = rw (e, held words s e .1, f, kept s e)
+    read s e (UnknownCode place) f = rw (e, held words s e .1, f, kept s e)
+
+    go : (found : Loaded) → loaded words ≡ found
+        → recordedLeaves words room bytes at
+        ≡ recordedLeft
+        (record {
+          number = recordedLeaves words room bytes at .answer .number;
+          value = 0;
+          next = recordedLeaves words room bytes at .answer .next;
+        })
+        words
+        room
+    go Unsound e = rw e
+    go (Held s) e = read s e (operationAt bytes at) refl
