@@ -3,13 +3,13 @@ use Prim.Native.Nat.{ℕ, zero, suc, _+_, _/_, _≤_, _<_, min}
 use native.Mathlib.Nat.{le-refl}
 use native.Mathlib.Omega.{arith}
 use mathlib.Core.Path.{_≡_, refl, ap, _∙_}
-use mathlib.Core.Bool.{Bool, true, false, cond}
-use mathlib.Core.Logic.{_≢_}
+use mathlib.Core.Bool.{Bool, true, false, cond, not}
+use mathlib.Core.Logic.{_≢_, _⊎_, inl, inr}
 use mathlib.Core.List.{List, [], _∷_}
 use lib.Bits.{and-step}
 use lib.Dec.{eqb, leb, ltb}
 use lib.ListN.{length}
-use borrow.Author.Tests.{le-leb, ltb-true, ltb-false, eq-eqb, eqb-true}
+use borrow.Author.Tests.{le-leb, le-ltb, ltb-true, ltb-false, eq-eqb, eqb-true}
 use Rattle.bits.specs.Bits.{within, oneOf}
 use Rattle.state.specs.declared.State.{State}
 use Rattle.state.specs.declared.Running.{Running}
@@ -20,7 +20,9 @@ use Rattle.room.specs.declared.Effect.the-variants.{Keep, Push, Clear, Start}
 use Rattle.access.specs.Access.{writeOutcome, isPerformed, meant, registerWritten}
 use Rattle.operation.specs.declared.Operation.{Operation}
 use Rattle.operation.specs.declared.Operation.the-variants.{Reset, Branch, Exception, Return, Platform, Read, Write, Iall, Unknown}
-use Rattle.operation.specs.Refusal.{unknownCode, outsideList, notPermitted, refusalOf}
+use Rattle.room.specs.Room.{needed}
+use Rattle.operation.specs.Refusal.{unknownCode, notReset, outsideList, notPermitted, sizeAfter, roomTooShort, firstThat, refusalOf}
+use Rattle.bits.proofs.Cases.{either, never}
 use Rattle.change.specs.Change.{changed, occasion, passed, effectOf, runningAfter}
 use Rattle.recorder.specs.Step.{acceptedWith, accepted, stepOf}
 use Rattle.history.specs.History.{Timed, Machine, isAccepted, stepped, run, FromReset, reset, unset}
@@ -148,3 +150,52 @@ below-7 s o room h = ltb-true (refusalOf s o room) 7 (rw h (below (unknownCode o
 pub never-unsound : (m : Machine) (list : List Timed) → FromReset m list → (o : Operation)
     → refusalOf (run m list .state) o (length (run m list .room)) ≢ 7
 never-unsound m list from o e = omega (arith, below-7 (run m list .state) o (length (run m list .room)) (sound-run m list (sound-from from)))
+
+-- ---- The replay program's room: 192 numbers are enough for any size.
+
+largest : (size : ℕ) → oneOf (0 ∷ sizes) size ≡ true → size ≤ 64
+largest size h =
+    go (either (eqb size 64)) (either (eqb size 32)) (either (eqb size 16)) (either (eqb size 8)) (either (eqb size 0))
+  where
+    is : (n : ℕ) → n ≤ 64 → eqb size n ≡ true → size ≤ 64
+    is n small e = let same = eqb-true size n e in omega arith
+
+    go : (eqb size 64 ≡ true) ⊎ (eqb size 64 ≡ false) → (eqb size 32 ≡ true) ⊎ (eqb size 32 ≡ false)
+        → (eqb size 16 ≡ true) ⊎ (eqb size 16 ≡ false)
+        → (eqb size 8 ≡ true) ⊎ (eqb size 8 ≡ false)
+        → (eqb size 0 ≡ true) ⊎ (eqb size 0 ≡ false)
+        → size ≤ 64
+    go (inl a) b c d e = is 64 (omega arith) a
+    go (inr a) (inl b) c d e = is 32 (omega arith) b
+    go (inr a) (inr b) (inl c) d e = is 16 (omega arith) c
+    go (inr a) (inr b) (inr c) (inl d) e = is 8 (omega arith) d
+    go (inr a) (inr b) (inr c) (inr d) (inl e) = is 0 (omega arith) e
+    go (inr a) (inr b) (inr c) (inr d) (inr e) = never (cc (rw (a, b, c, d, e) at h))
+
+size-bound : (s : State) (o : Operation) → sound s ≡ true → outsideList o ≡ false → sizeAfter s o ≤ 64
+unfolding outsideList
+size-bound s (Reset size v1p1) h listed = largest size (sized size (search each))
+size-bound s (Branch kind m source target) h listed = largest (s .size) (lines s h .0 .size)
+size-bound s (Exception kind level source target) h listed = largest (s .size) (lines s h .0 .size)
+size-bound s (Return level m source target) h listed = largest (s .size) (lines s h .0 .size)
+size-bound s (Platform p) h listed = largest (s .size) (lines s h .0 .size)
+size-bound s (Read r) h listed = largest (s .size) (lines s h .0 .size)
+size-bound s (Write r value) h listed = largest (s .size) (lines s h .0 .size)
+size-bound s Iall h listed = largest (s .size) (lines s h .0 .size)
+size-bound s Unknown h listed = largest (s .size) (lines s h .0 .size)
+
+not-six : (a b c d e f : Bool) → (d ≡ false → f ≡ false)
+    → firstThat ((7, a) ∷ (2, b) ∷ (3, c) ∷ (4, d) ∷ (5, e) ∷ (6, f) ∷ []) ≢ 6
+not-six true b c d e f h p = omega arith
+not-six false true c d e f h p = omega arith
+not-six false false true d e f h p = omega arith
+not-six false false false true e f h p = omega arith
+not-six false false false false true f h p = omega arith
+not-six false false false false false f h p = let none = h refl in omega (arith, rw none at p)
+
+-- With room for 64 records no operation on a sound state is refused for its room.
+pub never-short : (s : State) (o : Operation) → sound s ≡ true → refusalOf s o 192 ≢ 6
+unfolding refusalOf roomTooShort
+never-short s o h =
+    not-six (not (sound s)) (unknownCode o) (notReset s o) (outsideList o) (notPermitted s o) (ltb 192 (needed (sizeAfter s o)))
+    (λ listed. le-ltb 192 (needed (sizeAfter s o)) (omega (arith, size-bound s o h listed)))
