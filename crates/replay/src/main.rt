@@ -3,7 +3,8 @@
 // `line::replay_one`; here bytes are only brought to it and taken from it, through two fixed buffers.
 ghost use Prim.Native.Nat.{_≤_};
 ghost use lib.ListN.{length};
-use libc::STDIN_FILENO;
+use arguments::Input;
+use arguments::look;
 use libc::STDOUT_FILENO;
 use line::LONGEST_LINE;
 use line::replay_one;
@@ -76,7 +77,7 @@ fn refill(fd: i32, input: &mut [u8], p: Progress) -> Progress {
     let kept = move_down(input, p.at, p.end);
     let got = libc::read(fd, &mut input[kept..]);
     if got < 0 {
-        os::fail(b"replay");
+        os::fail(b"replay: reading");
         next.going = false;
         return next;
     }
@@ -92,7 +93,7 @@ fn flush(output: &[u8], p: Progress) -> Progress {
     let used = p.used;
     if used <= output.len() {
         if !io::write_all(STDOUT_FILENO, &output[..used]) {
-            os::fail(b"replay: standard output");
+            os::fail(b"replay: writing");
             next.going = false;
         }
     }
@@ -154,8 +155,17 @@ fn replay(fd: i32, room: &mut [u64], input: &mut [u8], output: &mut [u8]) {
 }
 
 fn main() {
+    let called = look(
+        b"replay",
+        b"usage: replay [FILE]\n\nReplays a recording from FILE, or from standard input where FILE is - or missing, from a fresh state with room\nfor 64 records. Prints a line for each read (16 hexadecimal digits), each access that was not performed\n(undefined, trap2, trap3) and each refusal (refused N), and nothing else. After refused 1 or refused 2 it stops.\n",
+        false,
+    );
+    let input = called.input;
+    let Input::Opened(fd) = input else {
+        return;
+    };
     let mut room = [0u64; 192];
-    let mut input = io::large_buffer();
-    let mut output = io::buffer();
-    replay(STDIN_FILENO, &mut room, &mut input, &mut output);
+    let mut bytes = io::large_buffer();
+    let mut lines = io::buffer();
+    replay(fd, &mut room, &mut bytes, &mut lines);
 }

@@ -1,111 +1,25 @@
-//! The time of a recorded branch by single calls: the proved library through its face, beside the Rust model, which does
-//! the same checks on the same lent numbers and moves its records the same way.
-//!
-//! Both start from the same state and room and take turns every few thousand operations, of which the median counts, so
-//! that what else the computer does falls on both alike or on none; neither call is inlined into the loop; every operation and every answer goes through a
-//! `black_box`; and what the two leave is compared after each round.
+//! The proved library beside the Rust model, which does the same checks on the same lent numbers and moves its records the
+//! same way: the time of a recorded branch by single calls, and that of a replay.
 
-use model::{Document01, Rules};
-use std::hint::black_box;
+mod branches;
+mod replay;
+
 use std::process::ExitCode;
-use std::time::Instant;
 
 const USAGE: &str = "\
-Times recorded branches by single calls: the proved library beside the Rust model.
+Times the proved library beside the Rust model: recorded branches by single calls,
+and the replay program, if it is built, on a file of 1000000 operations.
 
-usage: bench [--operations N] [--rounds N] [--quick]
+usage: bench [--operations N] [--rounds N] [--quick] [--replay]
 
   --operations N   branches a round (default 1000000)
   --rounds N       rounds, of which the medians count (default 15)
   --quick          200000 branches, 5 rounds
+  --replay         the replay alone
   --help           this text
 
-A line a buffer size: nanoseconds an operation of both, and their ratio.";
-
-/// How many branches one of the two takes before it is the other's turn.
-const TURN: usize = 4096;
-
-type Numbers = [u64; 6];
-type Step = fn(&mut [u64], &mut [u64], Numbers) -> (u64, u64);
-
-#[inline(never)]
-fn library(state: &mut [u64], room: &mut [u64], [code, cycles, fields @ ..]: Numbers) -> (u64, u64) {
-    let answer = face::step(state, room, face::Operation { code, cycles, fields });
-    (answer.number, answer.value)
-}
-
-#[inline(never)]
-fn modelled(state: &mut [u64], room: &mut [u64], numbers: Numbers) -> (u64, u64) {
-    let answer = Document01.step(state, room, numbers);
-    (answer.number(), answer.value())
-}
-
-/// A state and a room in which every branch becomes a record with a known count.
-#[derive(Clone, PartialEq, Eq)]
-struct Lent {
-    state: [u64; 9],
-    room: Vec<u64>,
-}
-
-impl Lent {
-    fn set_up(size: u64, step: Step) -> Lent {
-        let mut lent = Lent { state: [0; 9], room: vec![0; 192] };
-        let operations: [Numbers; 6] = [
-            [0, 0, size, 0, 0, 0],
-            [4, 0, 49, 0, 0, 0],
-            [6, 0, 1, 0x1A, 0, 0],
-            [6, 0, 2, 0x18, 0, 0],
-            [6, 0, 3, 0x10000, 0, 0],
-            [3, 0, 1, 0, 0x80, 0x1000],
-        ];
-        for numbers in operations {
-            assert_eq!(step(&mut lent.state, &mut lent.room, numbers), (0, 0));
-        }
-        lent
-    }
-}
-
-/// Branches of all six types, with counts of every length, well and badly predicted.
-fn branches() -> Vec<Numbers> {
-    let mut seed = 1u64;
-    let mut random = || {
-        seed = seed.wrapping_mul(0x5851_F42D_4C95_7F2D).wrapping_add(0x1405_7B7E_F767_814F);
-        seed >> 20
-    };
-    let branch = |_| {
-        let kind = [0, 1, 2, 3, 5, 8][random() as usize % 6];
-        let cycles = random() % (1 << (random() % 21));
-        [1, cycles, kind, random() & 1, random(), random()]
-    };
-    (0..TURN).map(branch).collect()
-}
-
-/// Nanoseconds an operation that these branches take.
-fn turn(step: Step, lent: &mut Lent, branches: &[Numbers]) -> f64 {
-    let start = Instant::now();
-    let mut done = 0;
-    for &branch in branches {
-        let (number, value) = step(&mut lent.state, &mut lent.room, black_box(branch));
-        done += usize::from(black_box(number | value) == 0);
-    }
-    let time = start.elapsed();
-    assert_eq!(done, branches.len(), "every branch is accepted");
-    time.as_nanos() as f64 / branches.len() as f64
-}
-
-/// One round of the library and of the model: the median of their turns.
-fn round(lent: &mut [Lent; 2], branches: &[Numbers], operations: usize) -> [f64; 2] {
-    let mut turns = [Vec::new(), Vec::new()];
-    let mut left = operations;
-    while left > 0 {
-        let branches = &branches[..left.min(TURN)];
-        left -= branches.len();
-        for (side, step) in [library as Step, modelled as Step].into_iter().enumerate() {
-            turns[side].push(turn(step, &mut lent[side], branches));
-        }
-    }
-    turns.map(|turns| median(turns.into_iter()))
-}
+A line a buffer size: nanoseconds an operation of both, and their ratio. Then the
+replay's milliseconds, their ratio, and the program's peak memory.";
 
 fn median(times: impl Iterator<Item = f64>) -> f64 {
     let mut times: Vec<f64> = times.collect();
@@ -113,34 +27,24 @@ fn median(times: impl Iterator<Item = f64>) -> f64 {
     times[times.len() / 2]
 }
 
-/// The median nanoseconds an operation of the library and of the model, and the median of the rounds' ratios.
-fn measure(size: u64, branches: &[Numbers], options: &Options) -> (f64, f64, f64) {
-    let mut lent = [Lent::set_up(size, library), Lent::set_up(size, modelled)];
-    let mut rounds = Vec::new();
-    for _ in 0..options.rounds + 1 {
-        rounds.push(round(&mut lent, branches, options.operations));
-        assert!(lent[0] == lent[1], "the library and the model leave the same numbers");
-        assert!(lent[0].room[..3 * size as usize].chunks(3).all(|record| record[0] & 3 == 3), "all are recorded");
-    }
-    // The first round warms up and does not count.
-    let rounds = &rounds[1..];
-    let [library, model] = [0, 1].map(|side| median(rounds.iter().map(|times| times[side])));
-    (library, model, median(rounds.iter().map(|[library, model]| library / model)))
-}
-
 struct Options {
     operations: usize,
     rounds: usize,
+    branches: bool,
 }
 
 /// The options, or none where help is asked for.
 fn options(mut arguments: impl Iterator<Item = String>) -> Result<Option<Options>, String> {
-    let mut options = Options { operations: 1_000_000, rounds: 15 };
+    let mut options = Options { operations: 1_000_000, rounds: 15, branches: true };
     while let Some(argument) = arguments.next() {
         let place = match argument.as_str() {
             "--help" | "-h" => return Ok(None),
             "--quick" => {
-                options = Options { operations: 200_000, rounds: 5 };
+                options = Options { operations: 200_000, rounds: 5, ..options };
+                continue;
+            }
+            "--replay" => {
+                options.branches = false;
                 continue;
             }
             "--operations" => &mut options.operations,
@@ -154,6 +58,19 @@ fn options(mut arguments: impl Iterator<Item = String>) -> Result<Option<Options
     Ok(Some(options))
 }
 
+fn report(options: &Options) -> ExitCode {
+    if options.branches {
+        branches::report(options);
+    }
+    match replay::report(options) {
+        Ok(()) => ExitCode::SUCCESS,
+        Err(error) => {
+            eprintln!("bench: replay: {error}");
+            ExitCode::FAILURE
+        }
+    }
+}
+
 fn main() -> ExitCode {
     match options(std::env::args().skip(1)) {
         Err(problem) => {
@@ -164,14 +81,6 @@ fn main() -> ExitCode {
             println!("{USAGE}");
             ExitCode::SUCCESS
         }
-        Ok(Some(options)) => {
-            let branches = branches();
-            println!("{} recorded branches a round, medians of {} rounds", options.operations, options.rounds);
-            for size in [8, 64] {
-                let (library, model, ratio) = measure(size, &branches, &options);
-                println!("size {size:2}: library {library:6.1} ns, model {model:6.1} ns, ratio {ratio:.2}");
-            }
-            ExitCode::SUCCESS
-        }
+        Ok(Some(options)) => report(&options),
     }
 }

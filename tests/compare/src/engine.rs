@@ -1,9 +1,10 @@
 //! The two that are compared, behind one signature.
 
 use crate::Call;
-use model::{Answer, Rules};
+use model::{Answer, Recordings, Refusal};
 
-/// Something that takes an operation on lent numbers and answers a number and a value.
+/// Something that takes an operation on lent numbers and answers a number and a value, and that reads, writes and steps
+/// recordings.
 pub trait Engine {
     fn name(&self) -> &str;
     fn step(&self, state: &mut [u64], room: &mut [u64], call: Call) -> (u64, u64);
@@ -11,6 +12,12 @@ pub trait Engine {
     fn read(&self, state: &mut [u64], room: &mut [u64], cycles: u64, register: u64) -> (u64, u64) {
         self.step(state, room, Call([5, cycles, register, 0, 0, 0]))
     }
+    /// Reads the operation at a position of a recording into a lent place.
+    fn recording_read(&self, bytes: &[u8], at: usize, place: &mut [u64]) -> (u64, u64);
+    /// Writes an operation at a position of lent bytes.
+    fn recording_write(&self, bytes: &mut [u8], at: usize, call: Call) -> (u64, u64);
+    /// Steps the operation at a position of a recording: the answer, and the position that follows.
+    fn step_recorded(&self, state: &mut [u64], room: &mut [u64], bytes: &[u8], at: usize) -> ((u64, u64), u64);
 }
 
 /// The proved library.
@@ -30,12 +37,27 @@ impl Engine for Library {
         let answer = face::read(state, room, cycles, register);
         (answer.number, answer.value)
     }
+
+    fn recording_read(&self, bytes: &[u8], at: usize, place: &mut [u64]) -> (u64, u64) {
+        let answer = face::recording_read(bytes, at, place);
+        (answer.number, answer.value)
+    }
+
+    fn recording_write(&self, bytes: &mut [u8], at: usize, Call([code, cycles, fields @ ..]): Call) -> (u64, u64) {
+        let answer = face::recording_write(bytes, at, face::Operation { code, cycles, fields });
+        (answer.number, answer.value)
+    }
+
+    fn step_recorded(&self, state: &mut [u64], room: &mut [u64], bytes: &[u8], at: usize) -> ((u64, u64), u64) {
+        let recorded = face::step_recorded(state, room, bytes, at);
+        ((recorded.number, recorded.value), recorded.next)
+    }
 }
 
 /// The Rust model, or a wrong one.
 pub struct Modelled<R>(pub R);
 
-impl<R: Rules> Engine for Modelled<R> {
+impl<R: Recordings> Engine for Modelled<R> {
     fn name(&self) -> &str {
         "model"
     }
@@ -43,6 +65,27 @@ impl<R: Rules> Engine for Modelled<R> {
     fn step(&self, state: &mut [u64], room: &mut [u64], call: Call) -> (u64, u64) {
         let answer: Answer = self.0.step(state, room, call.0);
         (answer.number(), answer.value())
+    }
+
+    fn recording_read(&self, bytes: &[u8], at: usize, place: &mut [u64]) -> (u64, u64) {
+        numbered(self.0.read_into(bytes, at, place))
+    }
+
+    fn recording_write(&self, bytes: &mut [u8], at: usize, call: Call) -> (u64, u64) {
+        numbered(self.0.write_operation(bytes, at, call.0))
+    }
+
+    fn step_recorded(&self, state: &mut [u64], room: &mut [u64], bytes: &[u8], at: usize) -> ((u64, u64), u64) {
+        let step = self.0.step_recorded(state, room, bytes, at);
+        ((step.answer.number(), step.answer.value()), step.next as u64)
+    }
+}
+
+/// What was read or written as an answer: 0 with the number of bytes or the position, or the refusal with 0.
+fn numbered(outcome: Result<usize, Refusal>) -> (u64, u64) {
+    match outcome {
+        Ok(value) => (0, value as u64),
+        Err(refusal) => (refusal as u64, 0),
     }
 }
 

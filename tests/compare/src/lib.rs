@@ -1,5 +1,6 @@
 //! The proved library and the Rust model beside each other: every answer, every state number and every room number is
-//! compared, on sequences from a fresh state and on single calls with any state and room.
+//! compared, on sequences from a fresh state and on single calls with any state and room. [`recording`] does the same with
+//! recordings.
 //!
 //! A case that disagrees is shrunk ([`shrink`]) and printed as numbers in document 01's written form.
 
@@ -8,6 +9,7 @@ pub mod demand3;
 pub mod engine;
 pub mod generate;
 pub mod random;
+pub mod recording;
 pub mod run;
 pub mod seed;
 pub mod sequence;

@@ -4,8 +4,8 @@
 use compare::seed::{self, say};
 use compare::{demand3, run, Engine, Library, Modelled, Random, Shares};
 use model::{
-    count, room, Access, Answer, BranchType, Document01, Event, Level, Operation, Outcome, Platform, Record, Refusal,
-    Register, Rules, Shape, State,
+    count, room, Access, Answer, BranchType, Document01, Event, Level, Operation, Outcome, Platform, Record,
+    Recordings, Refusal, Register, Rules, Shape, State,
 };
 
 /// How many operations of each kind an error may hide from.
@@ -21,6 +21,7 @@ macro_rules! planted {
         $(
             struct $name;
             impl Rules for $name { $($rule)* }
+            impl Recordings for $name {}
         )*
         const PLANTED: &[(&str, &dyn Engine)] = &[$(($words, &Modelled($name))),*];
     };
@@ -404,6 +405,8 @@ impl Rules for OldestKept {
         }
     }
 }
+
+impl Recordings for OldestKept {}
 
 /// The first disagreement of the library with a wrong model: on sequences, or else on single calls.
 fn found(wrong: &dyn Engine, seed: u64) -> Option<run::Disagreement> {

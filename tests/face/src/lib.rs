@@ -2,7 +2,8 @@
 //!
 //! The library keeps nothing between calls. The caller lends it the state (nine numbers) and the room (three numbers a
 //! record, newest first); each call changes them in place or, where it refuses, leaves every number as it was.
-//! [`Recorder`] holds the two together, owned or borrowed; [`step`] and [`read`] take them from anywhere.
+//! [`Recorder`] holds the two together, owned or borrowed; [`step`] and [`read`] take them from anywhere. Recordings are
+//! read and written with [`recording_read`] and [`recording_write`], and stepped along with [`step_recorded`].
 //!
 //! ```
 //! use face::{Operation, Outcome, Recorder};
@@ -32,8 +33,14 @@ pub const fn room_numbers(size: usize) -> usize {
     3 * size
 }
 
+/// How many numbers an operation of a recording is read into: code, cycles and four fields.
+pub const OPERATION_NUMBERS: usize = 6;
+
+/// How many bytes an operation of a recording has at most.
+pub const OPERATION_BYTES: usize = 60;
+
 mod c {
-    use super::Answer;
+    use super::{Answer, Recorded};
 
     extern "C" {
         pub fn brb_step(
@@ -58,6 +65,33 @@ mod c {
         ) -> Answer;
         pub fn brb_count_encode(count: u64) -> u64;
         pub fn brb_count_decode(cc: u64) -> Answer;
+        pub fn brb_recording_read(
+            bytes: *const u8,
+            length: usize,
+            at: usize,
+            place: *mut u64,
+            place_numbers: usize,
+        ) -> Answer;
+        pub fn brb_recording_write(
+            bytes: *mut u8,
+            length: usize,
+            at: usize,
+            code: u64,
+            cycles: u64,
+            a: u64,
+            b: u64,
+            c: u64,
+            d: u64,
+        ) -> Answer;
+        pub fn brb_step_recorded(
+            state: *mut u64,
+            state_numbers: usize,
+            room: *mut u64,
+            room_numbers: usize,
+            bytes: *const u8,
+            length: usize,
+            at: usize,
+        ) -> Recorded;
     }
 }
 
@@ -100,6 +134,28 @@ pub enum Outcome {
     Trap3,
     /// Refused, by the number in the table of refusals.
     Refused(u64),
+}
+
+/// What the library answers to one operation of a recording: `struct brb_recorded` of `include/brb.h`.
+#[repr(C)]
+#[derive(Clone, Copy, Debug, PartialEq, Eq)]
+pub struct Recorded {
+    pub number: u64,
+    pub value: u64,
+    /// The position after the operation; after 1 or 2 where the bad number starts, after 7 where reading was to begin.
+    pub next: u64,
+}
+
+impl Recorded {
+    /// The answer to the operation, without the position.
+    pub fn answer(self) -> Answer {
+        Answer { number: self.number, value: self.value }
+    }
+
+    /// Whether reading stops here: after 7, 1 or 2.
+    pub fn stops(self) -> bool {
+        matches!(self.number, 7 | 1 | 2)
+    }
 }
 
 /// One operation: its code, the cycles passed since the previous operation, and its fields in order. Numbers beyond the
@@ -171,6 +227,63 @@ pub fn step(state: &mut [u64], room: &mut [u64], operation: Operation) -> Answer
 pub fn read(state: &mut [u64], room: &mut [u64], cycles: u64, register: u64) -> Answer {
     // SAFETY: as in `step`.
     unsafe { c::brb_read(state.as_mut_ptr(), state.len(), room.as_mut_ptr(), room.len(), cycles, register) }
+}
+
+/// The operation at a position of a recording, as six numbers into a lent place, with 0 for fields that it has not.
+/// Answers 0 and the position after it; or 6 where the place has fewer than [`OPERATION_NUMBERS`] (checked first), 1 where
+/// a number is malformed or the input ends inside the operation, 2 where the code is above 7, and then the place is left
+/// as it was. [`operation_at`] gives it by name.
+#[inline]
+pub fn recording_read(bytes: &[u8], at: usize, place: &mut [u64]) -> Answer {
+    // SAFETY: as in `step`; the bytes are only read.
+    unsafe { c::brb_recording_read(bytes.as_ptr(), bytes.len(), at, place.as_mut_ptr(), place.len()) }
+}
+
+/// The operation at a position of a recording and the position after it, or the refusal: 1 or 2.
+///
+/// ```
+/// use face::Operation;
+///
+/// let bytes = [5, 0xAC, 0x02, 32, 7, 0x80, 0x00];
+/// assert_eq!(face::operation_at(&bytes, 0), Ok((Operation::read(300, 32), 4)));
+/// assert_eq!(face::operation_at(&bytes, 4), Err(1)); // 80 00 is not the shortest form of 0
+/// ```
+pub fn operation_at(bytes: &[u8], at: usize) -> Result<(Operation, usize), u64> {
+    let mut place = [0; OPERATION_NUMBERS];
+    match recording_read(bytes, at, &mut place) {
+        Answer { number: 0, value } => {
+            let [code, cycles, fields @ ..] = place;
+            Ok((Operation { code, cycles, fields }, value as usize))
+        }
+        Answer { number, .. } => Err(number),
+    }
+}
+
+/// Writes an operation at a position of lent bytes. Answers 0 and the number of bytes written; or 2 where the code is
+/// above 7, then 6 where the operation has no room there, and then no byte is written. Nothing else is checked.
+///
+/// ```
+/// use face::{Answer, Operation};
+///
+/// let mut bytes = [0; face::OPERATION_BYTES];
+/// let answer = face::recording_write(&mut bytes, 0, Operation::read(300, 32));
+/// assert_eq!(answer, Answer { number: 0, value: 4 });
+/// assert_eq!(bytes[..4], [5, 0xAC, 0x02, 32]);
+/// ```
+#[inline]
+pub fn recording_write(bytes: &mut [u8], at: usize, operation: Operation) -> Answer {
+    let Operation { code, cycles, fields: [a, b, c, d] } = operation;
+    // SAFETY: the pointer comes with its slice's own length, and the borrow is exclusive and lasts for the call.
+    unsafe { c::brb_recording_write(bytes.as_mut_ptr(), bytes.len(), at, code, cycles, a, b, c, d) }
+}
+
+/// The operation at a position of a recording, read and stepped on lent numbers: 7 first, with nothing read, then 1 or 2,
+/// then as [`step`]. At the end of the input the answer is 1: who replays a recording stops before it.
+#[inline]
+pub fn step_recorded(state: &mut [u64], room: &mut [u64], bytes: &[u8], at: usize) -> Recorded {
+    let (lent, length) = (bytes.as_ptr(), bytes.len());
+    // SAFETY: as in `step`; the bytes are only read.
+    unsafe { c::brb_step_recorded(state.as_mut_ptr(), state.len(), room.as_mut_ptr(), room.len(), lent, length, at) }
 }
 
 /// A cycle count as BRBINF's field CC: rounded down, and 0x3FFF above 1,048,575.
@@ -265,6 +378,27 @@ where
     /// A read of a register.
     pub fn read(&mut self, cycles: u64, register: u64) -> Answer {
         read(self.state.as_mut(), self.room.as_mut(), cycles, register)
+    }
+
+    /// The operation at a position of a recording.
+    ///
+    /// ```
+    /// use face::{Outcome, Recorder};
+    ///
+    /// let (bytes, mut at) = ([0, 0, 8, 0, 5, 0, 0], 0);
+    /// let mut recorder = Recorder::new();
+    /// while at < bytes.len() {
+    ///     let recorded = recorder.step_recorded(&bytes, at);
+    ///     assert_eq!(recorded.answer().outcome(), Outcome::Done(if at == 0 { 0 } else { 0x5008 }));
+    ///     if recorded.stops() {
+    ///         break;
+    ///     }
+    ///     at = recorded.next as usize;
+    /// }
+    /// assert_eq!(at, bytes.len());
+    /// ```
+    pub fn step_recorded(&mut self, bytes: &[u8], at: usize) -> Recorded {
+        step_recorded(self.state.as_mut(), self.room.as_mut(), bytes, at)
     }
 
     /// The state's numbers.

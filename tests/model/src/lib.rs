@@ -1,8 +1,9 @@
 //! Document 01 a second time, in plain Rust: one processor's branch record buffer, operation by operation.
 //!
-//! It is written from document 01 and `docs/DECISIONS.md` alone, so that the proved library has something independent to
-//! be compared with. [`Rules`] holds one method a rule, in the document's order; [`Document01`] is the document as it
-//! stands. A test that wants to know whether an error would be found overrides one method.
+//! It is written from document 01, `docs/DECISIONS.md` and, for what is lent, `include/brb.h` alone, so that the proved
+//! library has something independent to be compared with. [`Rules`] holds one method a rule, in the document's order;
+//! [`Document01`] is the document as it stands. [`Recordings`] does the same for recordings. A test that wants to know
+//! whether an error would be found overrides one method.
 //!
 //! ```
 //! use model::{Answer, Document01, Rules, State};
@@ -32,6 +33,7 @@ pub use event::{Cause, Event, Record, Shape};
 pub use level::Level;
 pub use operation::{exception_type, own_fields, BranchType, Operation, Part, Register, EXCEPTION_TYPES, LAST_CODE};
 pub use platform::Platform;
+pub use recording::Recordings;
 pub use rules::{Document01, Rules};
 pub use state::{buffer_size, State, CONTROL_MASK, FILTER_MASK};
 

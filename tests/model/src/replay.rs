@@ -1,33 +1,34 @@
 //! Document 01, "Recordings": what the replay program prints.
 
-use crate::recording;
+use crate::recording::Recordings;
 use crate::{room, Answer, Document01, State};
+use std::fmt::{self, Write};
 
-/// The lines for a whole recording, from a fresh state with room for 64 records.
-pub fn lines(bytes: &[u8]) -> Vec<String> {
+/// All that it prints for a whole recording, from a fresh state with room for 64 records.
+pub fn text(bytes: &[u8]) -> String {
     let mut state = [0; State::NUMBERS];
     let mut records = vec![0; room::needed(64)];
-    let (mut lines, mut at) = (Vec::new(), 0);
+    let (mut text, mut at) = (String::new(), 0);
     while at < bytes.len() {
-        let step = recording::step(&Document01, &mut state, &mut records, bytes, at);
-        lines.extend(line(step.answer));
-        if recording::stops(step.answer) {
+        let step = Document01.step_recorded(&mut state, &mut records, bytes, at);
+        print_line(&mut text, step.answer).expect("a string takes every line");
+        if Document01.stops(step.answer) {
             break;
         }
         at = step.next;
     }
-    lines
+    text
 }
 
 /// "A line for each read (16 lower-case hex digits), each access not performed and each refusal; nothing else."
-fn line(answer: Answer) -> Option<String> {
+fn print_line(text: &mut String, answer: Answer) -> fmt::Result {
     match answer {
-        Answer::Done => None,
-        Answer::Read(value) => Some(format!("{value:016x}")),
-        Answer::Undefined => Some("undefined".into()),
-        Answer::Trap2 => Some("trap2".into()),
-        Answer::Trap3 => Some("trap3".into()),
-        Answer::Refused(refusal) => Some(format!("refused {}", refusal as u64)),
+        Answer::Done => Ok(()),
+        Answer::Read(value) => writeln!(text, "{value:016x}"),
+        Answer::Undefined => writeln!(text, "undefined"),
+        Answer::Trap2 => writeln!(text, "trap2"),
+        Answer::Trap3 => writeln!(text, "trap3"),
+        Answer::Refused(refusal) => writeln!(text, "refused {}", refusal as u64),
     }
 }
 
@@ -39,10 +40,17 @@ mod tests {
                       1 300 8 1 4112 4096 / 5 0 32 / 5 0 33 / 5 0 64 / 5 0 2";
     const S1_LINES: [&str; 4] = ["0000012c00000843", "0000400000000043", "0000000000001010", "undefined"];
 
+    /// The lines of what is printed, each of which is ended.
+    fn lines(bytes: &[u8]) -> Vec<String> {
+        let text = text(bytes);
+        assert!(text.is_empty() || text.ends_with('\n'));
+        text.lines().map(String::from).collect()
+    }
+
     /// The bytes of numbers in document 01's written form.
     fn bytes(numbers: &str) -> Vec<u8> {
         let numbers = numbers.split([' ', '/']).filter(|number| !number.is_empty());
-        numbers.flat_map(|number| recording::number_bytes(number.parse().unwrap())).collect()
+        numbers.flat_map(|number| Document01.number_bytes(number.parse().unwrap())).collect()
     }
 
     /// The marked case P12.

@@ -1,0 +1,218 @@
+// A program's arguments: what it is to read, and whether as numbers. Every problem is said on standard error.
+use libc::STDERR_FILENO;
+use libc::STDIN_FILENO;
+use libc::STDOUT_FILENO;
+
+// What a program is to read.
+pub enum Input {
+    // A descriptor that is open for reading.
+    Opened(i32),
+    // Nothing: help was asked for and printed, or a message says what is wrong.
+    Nothing,
+}
+
+pub struct Called {
+    pub input: Input,
+    // `--numbers` was given.
+    pub numbers: bool,
+}
+
+// What one argument is.
+enum Word {
+    Help,
+    Numbers,
+    // `-`: standard input.
+    Dash,
+    Option,
+    Name,
+}
+
+// What the arguments so far say.
+struct Seen {
+    help: bool,
+    numbers: bool,
+    // The place of the input's name among the arguments; 0, the program's own, while there is none.
+    name: usize,
+    // A message was written: nothing is to be read.
+    wrong: bool,
+}
+
+// Whether two texts are the same.
+fn same(a: &[u8], b: &[u8]) -> bool {
+    if a.len() != b.len() {
+        return false;
+    }
+    let mut equal = true;
+    let mut i = 0;
+    while i < a.len() {
+        equal = equal & (a[i] == b[i]);
+        i += 1;
+    }
+    equal
+}
+
+fn word_of(text: &[u8]) -> Word {
+    if same(text, b"--help") {
+        return Word::Help;
+    }
+    if same(text, b"--numbers") {
+        return Word::Numbers;
+    }
+    if same(text, b"-") {
+        return Word::Dash;
+    }
+    if text.len() == 0 {
+        return Word::Name;
+    }
+    if text[0] == b'-' {
+        return Word::Option;
+    }
+    Word::Name
+}
+
+// `PROGRAM: what text; try --help`.
+fn complain(program: &[u8], what: &[u8], text: &[u8]) {
+    io::write_all(STDERR_FILENO, program);
+    io::write_all(STDERR_FILENO, b": ");
+    io::write_all(STDERR_FILENO, what);
+    io::write_all(STDERR_FILENO, text);
+    io::write_all(STDERR_FILENO, b"; try --help\n");
+}
+
+// The same, with nothing to read from here on.
+fn refuse(program: &[u8], what: &[u8], text: &[u8], seen: Seen) -> Seen {
+    complain(program, what, text);
+    Seen {
+        help: seen.help,
+        numbers: seen.numbers,
+        name: seen.name,
+        wrong: true,
+    }
+}
+
+// The input's name, at place i: there is one at most.
+fn named(program: &[u8], i: usize, text: &[u8], seen: Seen) -> Seen {
+    if seen.name != 0 {
+        return refuse(program, b"a second input, ", text, seen);
+    }
+    Seen {
+        help: seen.help,
+        numbers: seen.numbers,
+        name: i,
+        wrong: seen.wrong,
+    }
+}
+
+fn helped(seen: Seen) -> Seen {
+    Seen {
+        help: true,
+        numbers: seen.numbers,
+        name: seen.name,
+        wrong: seen.wrong,
+    }
+}
+
+fn numbered(seen: Seen) -> Seen {
+    Seen {
+        help: seen.help,
+        numbers: true,
+        name: seen.name,
+        wrong: seen.wrong,
+    }
+}
+
+// What the arguments say with the one at place i, whose text this is. `numbers`: the program has that option.
+fn with_text(program: &[u8], numbers: bool, i: usize, text: &[u8], seen: Seen) -> Seen {
+    match word_of(text) {
+        Word::Help => helped(seen),
+        Word::Numbers => {
+            if numbers {
+                numbered(seen)
+            } else {
+                refuse(program, b"unknown option ", text, seen)
+            }
+        }
+        Word::Dash => named(program, i, text, seen),
+        Word::Option => refuse(program, b"unknown option ", text, seen),
+        Word::Name => named(program, i, text, seen),
+    }
+}
+
+// The same for the argument at place i, which has to be read first.
+fn with_argument(program: &[u8], numbers: bool, i: usize, seen: Seen) -> Seen {
+    let mut text = io::buffer();
+    let length = os::arg(i, &mut text);
+    if os::errno() != 0 {
+        return refuse(program, b"an argument is too long", b"", seen);
+    }
+    with_text(program, numbers, i, &text[..length], seen)
+}
+
+// What all arguments say, from the first after the program's own name up to the first that is wrong.
+fn all_arguments(program: &[u8], numbers: bool) -> Seen {
+    let mut seen = Seen {
+        help: false,
+        numbers: false,
+        name: 0,
+        wrong: false,
+    };
+    let count = os::arg_count();
+    let mut i = 1;
+    while i < count {
+        if !seen.wrong {
+            seen = with_argument(program, numbers, i, seen);
+        }
+        i += 1;
+    }
+    seen
+}
+
+// The file of this name, or standard input where the name is `-`. The program's name goes in front of the system's text.
+fn open_named(program: &[u8], name: &[u8]) -> Input {
+    if same(name, b"-") {
+        return Input::Opened(STDIN_FILENO);
+    }
+    let descriptor = os::open_read(name);
+    if descriptor < 0 {
+        io::write_all(STDERR_FILENO, program);
+        io::write_all(STDERR_FILENO, b": ");
+        os::fail(name);
+        return Input::Nothing;
+    }
+    Input::Opened(descriptor)
+}
+
+// The input whose name stands at place i of the arguments; standard input where there is no name.
+fn open_argument(program: &[u8], i: usize) -> Input {
+    if i == 0 {
+        return Input::Opened(STDIN_FILENO);
+    }
+    let mut name = io::buffer();
+    let length = os::arg(i, &mut name);
+    open_named(program, &name[..length])
+}
+
+// Looks at the arguments and opens what the program is to read: the file that they name, or standard input where they
+// name none or `-`. Where help is asked for, `usage` is printed. `numbers`: the program has the option `--numbers`.
+pub fn look(program: &[u8], usage: &[u8], numbers: bool) -> Called {
+    let seen = all_arguments(program, numbers);
+    let as_numbers = seen.numbers;
+    if seen.wrong {
+        return Called {
+            input: Input::Nothing,
+            numbers: as_numbers,
+        };
+    }
+    if seen.help {
+        io::write_all(STDOUT_FILENO, usage);
+        return Called {
+            input: Input::Nothing,
+            numbers: as_numbers,
+        };
+    }
+    let input = open_argument(program, seen.name);
+    Called {
+        input,
+        numbers: as_numbers,
+    }
+}
