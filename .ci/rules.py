@@ -50,7 +50,7 @@ def missing(name):
     m = re.fullmatch(r"(\w+)::(?:(\w+)::)?(\w+)", name)
     if m:
         text = source(m[1])
-        if m[2] and not re.search(r"^impl %s\b" % m[2], text, re.M):
+        if m[2] and not re.search(r"^impl(<[^>]*>)? %s\b" % m[2], text, re.M):
             return "no such type"
         return None if re.search(r"\b(fn|const|struct|enum) %s\b" % m[3], text) else "no such function"
     m = re.fullmatch(r"(\w+)/must-fail/(\w+)", name)

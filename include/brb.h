@@ -73,6 +73,15 @@ uint64_t brb_count_encode(uint64_t count);
  * the count exceeded the counter (0x3FFF); number 4 with 0 where no count has this encoding. */
 struct brb_answer brb_count_decode(uint64_t cc);
 
+/* One register of the records, as a bank of a buffer of this size shows it: BRBINF<m>, BRBSRC<m> or BRBTGT<m> with BANK in
+ * BRBFCR_EL1. Number 0 with the register of record m + 32 * bank, or with 0 where that is not below the size; number 4 with
+ * 0 where the size is none of 8, 16, 32 and 64, `bank` is above 3 or `m` above 31; else number 6 with 0 where the room is
+ * too short for the size. Nothing is written, no state is needed and no cycles pass: a host looks at records without an
+ * operation. For a state's own size and BANK the value is what a performed read of the register reads. */
+struct brb_answer brb_bank_inf(const uint64_t *room, size_t room_numbers, uint64_t size, uint64_t bank, uint64_t m);
+struct brb_answer brb_bank_source(const uint64_t *room, size_t room_numbers, uint64_t size, uint64_t bank, uint64_t m);
+struct brb_answer brb_bank_target(const uint64_t *room, size_t room_numbers, uint64_t size, uint64_t bank, uint64_t m);
+
 /* Recordings: operations one after another, each a code, its cycles and its fields. A number is in groups of seven bits,
  * low group first, top bit set when more follow, at most ten bytes, in its shortest form. */
 

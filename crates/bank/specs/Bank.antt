@@ -1,14 +1,14 @@
 -- Document 01, "Access outcomes", last paragraph: "a bank view holds a reference to the lent records and shows that bank's
 -- part and no other."
-use Prim.Native.Nat.{ℕ, _+_, _*_}
+use Prim.Native.Nat.{ℕ, _+_, _*_, _%_}
 use mathlib.Core.Bool.{cond, _||_, not}
 use mathlib.Core.List.{List}
-use lib.Dec.{eqb, ltb}
+use lib.Dec.{eqb, ltb, leb}
 use lib.ListN.{length}
 use Rattle.bits.specs.Bits.{oneOf}
 use Rattle.state.specs.Named.{sizes}
 use Rattle.room.specs.declared.Record.{Record}
-use Rattle.room.specs.Room.{records, numbered, needed}
+use Rattle.room.specs.Room.{zeroRecord, records, numbered, needed}
 use Rattle.bank.specs.declared.Shown.{Shown}
 use Rattle.bank.specs.declared.Shown.the-variants.{Value, Refused}
 
@@ -21,8 +21,26 @@ bankRefusal size bank m room =
 unfoldable pub bankRecord : ℕ → ℕ → ℕ → List ℕ → Record
 bankRecord size bank m room = numbered (m + 32 * bank) (records size room)
 
+-- What a view shows of the bank whose first record has the number `start`: 32 records, and zero records past the size and
+-- past the bank's 32.
+unfoldable pub shownFrom : ℕ → ℕ → ℕ → List ℕ → Record
+shownFrom size start m room = cond (leb 32 m) zeroRecord (numbered (m + start) (records size room))
+
+-- A bank's first record. BANK has two bits.
+abbrev pub bankStart : ℕ → ℕ
+bankStart bank = 32 * (bank % 4)
+
 -- One register of it: `register` is the record's BRBINF, BRBSRC or BRBTGT.
 unfoldable pub bankShows : (Record → ℕ) → ℕ → ℕ → ℕ → List ℕ → Shown
 bankShows register size bank m room =
     cond (eqb (bankRefusal size bank m room) 0) (Value (register (bankRecord size bank m room)))
     (Refused (bankRefusal size bank m room))
+
+-- Its answer as document 01's numbers.
+abbrev pub numberOf : Shown → ℕ
+numberOf (Value v) = 0
+numberOf (Refused n) = n
+
+abbrev pub valueOf : Shown → ℕ
+valueOf (Value v) = v
+valueOf (Refused n) = 0

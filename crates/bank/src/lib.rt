@@ -1,4 +1,15 @@
-// The bank view (document 01, "Access outcomes", last paragraph).
+// The bank view (document 01, "Access outcomes", last paragraph): "a bank view holds a reference to the lent records and shows
+// that bank's part and no other." It holds them beside two numbers. What it shows is decided by `record_from`, on a plain
+// slice; the functions that take, make or hold a view are thin, since their proofs are by hand.
+ghost use mathlib.Core.Path.{_≡_};
+ghost use mathlib.Core.Bool.{cond};
+ghost use lib.Dec.{eqb};
+ghost use Rattle.bank.specs.Bank.{bankRefusal, bankStart, shownFrom, bankShows, numberOf, valueOf};
+use room::Record;
+use room::record_at;
+
+// How many records a bank shows.
+const BANKED: u64 = 32;
 
 // What the bank view answers.
 pub enum Shown {
@@ -6,4 +17,182 @@ pub enum Shown {
     Value(u64),
     // The number of the refusal.
     Refused(u64),
+}
+
+impl Shown {
+    // Document 01's number: 0, or a refusal's.
+    pub fn number(self) -> u64
+        ensures { λ r. ⌜ r ≡ numberOf self ⌝ }
+    {
+        match self {
+            Shown::Value(_) => 0,
+            Shown::Refused(n) => n,
+        }
+    }
+
+    // The value, 0 where the view refuses.
+    pub fn value(self) -> u64
+        ensures { λ r. ⌜ r ≡ valueOf self ⌝ }
+    {
+        match self {
+            Shown::Value(v) => v,
+            Shown::Refused(_) => 0,
+        }
+    }
+}
+
+// The records of a room, as one bank shows them: `start` is the number of the bank's first record.
+pub struct BankView<'a> {
+    pub records: &'a [u64],
+    pub size: u64,
+    pub start: u64,
+}
+
+// Record m of the bank that starts at `start`. No sum can wrap.
+fn record_from(records: &[u64], size: u64, start: u64, m: u64) -> Record
+    ensures { λ r. ⌜ r ≡ shownFrom size start m (now (records .entry)) ⌝ }
+{
+    let none = Record {
+        inf: 0,
+        source: 0,
+        target: 0,
+    };
+    if BANKED <= m {
+        return none;
+    }
+    if size <= start {
+        return none;
+    }
+    if size - start <= m {
+        return none;
+    }
+    record_at(records, size, m + start)
+}
+
+fn inf_at(records: &[u64], size: u64, start: u64, m: u64) -> u64
+    ensures { λ r. ⌜ r ≡ shownFrom size start m (now (records .entry)) .inf ⌝ }
+{
+    let r = record_from(records, size, start, m);
+    r.inf
+}
+
+fn source_at(records: &[u64], size: u64, start: u64, m: u64) -> u64
+    ensures { λ r. ⌜ r ≡ shownFrom size start m (now (records .entry)) .source ⌝ }
+{
+    let r = record_from(records, size, start, m);
+    r.source
+}
+
+fn target_at(records: &[u64], size: u64, start: u64, m: u64) -> u64
+    ensures { λ r. ⌜ r ≡ shownFrom size start m (now (records .entry)) .target ⌝ }
+{
+    let r = record_from(records, size, start, m);
+    r.target
+}
+
+impl<'a> BankView<'a> {
+    pub fn new(records: &'a [u64], size: u64, start: u64) -> BankView<'a>
+        ensures { λ v. ⌜ (v .records ≡ records .entry) × (v .size ≡ size) × (v .start ≡ start) ⌝ }
+    {
+        BankView {
+            records,
+            size,
+            start,
+        }
+    }
+
+    // BRBINF of register m, or 0.
+    pub fn inf(self, m: u64) -> u64
+        ensures { λ r. ⌜ r ≡ shownFrom (self .entry .size) (self .entry .start) m (now (self .entry .records)) .inf ⌝ }
+    {
+        inf_at(self.records, self.size, self.start, m)
+    }
+
+    // BRBSRC of register m, or 0.
+    pub fn source(self, m: u64) -> u64
+        ensures { λ r. ⌜ r ≡ shownFrom (self .entry .size) (self .entry .start) m (now (self .entry .records)) .source ⌝ }
+    {
+        source_at(self.records, self.size, self.start, m)
+    }
+
+    // BRBTGT of register m, or 0.
+    pub fn target(self, m: u64) -> u64
+        ensures { λ r. ⌜ r ≡ shownFrom (self .entry .size) (self .entry .start) m (now (self .entry .records)) .target ⌝ }
+    {
+        target_at(self.records, self.size, self.start, m)
+    }
+}
+
+// A view of a room, and one register of it.
+fn inf_viewed(room: &[u64], size: u64, start: u64, m: u64) -> u64
+    ensures { λ r. ⌜ r ≡ shownFrom size start m (now (room .entry)) .inf ⌝ }
+{
+    BankView::new(room, size, start).inf(m)
+}
+
+fn source_viewed(room: &[u64], size: u64, start: u64, m: u64) -> u64
+    ensures { λ r. ⌜ r ≡ shownFrom size start m (now (room .entry)) .source ⌝ }
+{
+    BankView::new(room, size, start).source(m)
+}
+
+fn target_viewed(room: &[u64], size: u64, start: u64, m: u64) -> u64
+    ensures { λ r. ⌜ r ≡ shownFrom size start m (now (room .entry)) .target ⌝ }
+{
+    BankView::new(room, size, start).target(m)
+}
+
+// The number of the first refusal whose condition holds, or 0. The room is tested by a division, so that no size overflows.
+fn refusal(room: &[u64], size: u64, bank: u64, m: u64) -> u64
+    ensures { λ r. ⌜ r ≡ bankRefusal size bank m (now (room .entry)) ⌝ }
+{
+    let listed = (size == 64) | (size == 32) | (size == 16) | (size == 8);
+    if !listed | (3 < bank) | (31 < m) {
+        return 4;
+    }
+    if room.len() / 3 < size as usize {
+        return 6;
+    }
+    0
+}
+
+// The bank's first record. BANK has two bits.
+fn bank_start(bank: u64) -> u64
+    ensures { λ r. ⌜ r ≡ bankStart bank ⌝ }
+{
+    BANKED * (bank % 4)
+}
+
+fn answered(refusal: u64, value: u64) -> Shown
+    ensures { λ r. ⌜ r ≡ cond (eqb refusal 0) (Shown.Value value) (Shown.Refused refusal) ⌝ }
+{
+    if refusal == 0 {
+        Shown::Value(value)
+    } else {
+        Shown::Refused(refusal)
+    }
+}
+
+// BRBINF of register m in a bank of a room, or a refusal.
+pub fn bank_inf(room: &[u64], size: u64, bank: u64, m: u64) -> Shown
+    ensures { λ r. ⌜ r ≡ bankShows (λ x. x .inf) size bank m (now (room .entry)) ⌝ }
+{
+    let value = inf_viewed(room, size, bank_start(bank), m);
+    answered(refusal(room, size, bank, m), value)
+}
+
+// BRBSRC of register m in a bank of a room, or a refusal.
+pub fn bank_source(room: &[u64], size: u64, bank: u64, m: u64) -> Shown
+    ensures { λ r. ⌜ r ≡ bankShows (λ x. x .source) size bank m (now (room .entry)) ⌝ }
+{
+    let value = source_viewed(room, size, bank_start(bank), m);
+    answered(refusal(room, size, bank, m), value)
+}
+
+// BRBTGT of register m in a bank of a room, or a refusal.
+pub fn bank_target(room: &[u64], size: u64, bank: u64, m: u64) -> Shown
+    ensures { λ r. ⌜ r ≡ bankShows (λ x. x .target) size bank m (now (room .entry)) ⌝ }
+{
+    let value = target_viewed(room, size, bank_start(bank), m);
+    answered(refusal(room, size, bank, m), value)
 }

@@ -5,6 +5,8 @@ use Rattle.count.specs.declared.Decoded.{Decoded}
 use Rattle.count.specs.Count as Count
 use Rattle.recorder.specs.Step.{numberOf, valueOf}
 use Rattle.recorder.specs.Lent.{Lent, lentStep}
+use Rattle.bank.specs.declared.Shown.{Shown}
+use Rattle.bank.specs.Bank as Bank
 use Rattle.brb.specs.declared.BrbAnswer.{BrbAnswer}
 
 -- What an exported step answers and leaves in what it was lent.
@@ -26,3 +28,7 @@ stepLeaves words code cycles a b c d room = left (lentStep words code cycles a b
 -- What decoding a count answers.
 abbrev pub decodeAnswer : Decoded → BrbAnswer
 decodeAnswer d = record { number = Count.numberOf d; value = Count.valueOf d }
+
+-- What a bank view answers.
+abbrev pub shownAnswer : Shown → BrbAnswer
+shownAnswer s = record { number = Bank.numberOf s; value = Bank.valueOf s }

@@ -2,9 +2,13 @@
 // what each number means. Everything is decided below: this crate holds exports only.
 ghost use mathlib.Core.Path.{_≡_};
 ghost use Rattle.count.specs.Count.{encoded, decoded};
-ghost use Rattle.brb.specs.Face.{leaves, stepLeaves, decodeAnswer};
-ghost use Rattle.brb.specs.Recordings.{readLeft, readLeaves, writeAnswer, recordedLeft, recordedLeaves};
+ghost use Rattle.bank.specs.Bank.{bankShows};
 ghost use Rattle.recording.specs.Recording.{writingOf, writtenOperation};
+ghost use Rattle.brb.specs.Face.{leaves, stepLeaves, decodeAnswer, shownAnswer};
+ghost use Rattle.brb.specs.Recordings.{readLeft, readLeaves, writeAnswer, recordedLeft, recordedLeaves};
+use bank::bank_inf;
+use bank::bank_source;
+use bank::bank_target;
 use operation::operation_of;
 use recorder::lent_step;
 use recording::Numbers;
@@ -73,6 +77,42 @@ pub extern "C" fn brb_count_decode(cc: u64) -> BrbAnswer
     BrbAnswer {
         number: decoded.number(),
         value: decoded.value(),
+    }
+}
+
+// BRBINF of register m, as one bank of a room shows it.
+#[no_mangle]
+pub extern "C" fn brb_bank_inf(room: &[u64], size: u64, bank: u64, m: u64) -> BrbAnswer
+    ensures { λ r. ⌜ r ≡ shownAnswer (bankShows (λ x. x .inf) size bank m (now (room .entry))) ⌝ }
+{
+    let shown = bank_inf(room, size, bank, m);
+    BrbAnswer {
+        number: shown.number(),
+        value: shown.value(),
+    }
+}
+
+// BRBSRC of register m, as one bank of a room shows it.
+#[no_mangle]
+pub extern "C" fn brb_bank_source(room: &[u64], size: u64, bank: u64, m: u64) -> BrbAnswer
+    ensures { λ r. ⌜ r ≡ shownAnswer (bankShows (λ x. x .source) size bank m (now (room .entry))) ⌝ }
+{
+    let shown = bank_source(room, size, bank, m);
+    BrbAnswer {
+        number: shown.number(),
+        value: shown.value(),
+    }
+}
+
+// BRBTGT of register m, as one bank of a room shows it.
+#[no_mangle]
+pub extern "C" fn brb_bank_target(room: &[u64], size: u64, bank: u64, m: u64) -> BrbAnswer
+    ensures { λ r. ⌜ r ≡ shownAnswer (bankShows (λ x. x .target) size bank m (now (room .entry))) ⌝ }
+{
+    let shown = bank_target(room, size, bank, m);
+    BrbAnswer {
+        number: shown.number(),
+        value: shown.value(),
     }
 }
 

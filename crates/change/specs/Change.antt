@@ -1,10 +1,10 @@
 -- What an accepted operation changes: level, P and registers, the running count, and the records.
-use Prim.Native.Nat.{ℕ, _+_, min}
+use Prim.Native.Nat.{ℕ}
 use mathlib.Core.Bool.{Bool, cond, _&&_, _||_, not}
 use Rattle.state.specs.declared.State.{State}
 use Rattle.state.specs.declared.Running.{Running}
 use Rattle.state.specs.Named.{counting, PAUSED, runningAfterReset, afterReset, atLevel, withPlatform}
-use Rattle.state.specs.Sound.{cap}
+use Rattle.running.specs.Ran.{ran}
 use Rattle.room.specs.declared.Effect.{Effect}
 use Rattle.room.specs.declared.Effect.the-variants.{Keep, Push, Clear, Start}
 use Rattle.region.specs.Region.{prohibited}
@@ -35,13 +35,9 @@ unfoldable pub occasion : State → State → Bool
 occasion before after =
     prohibited before (before .level) || not (counting before) && counting after || PAUSED before && not (PAUSED after)
 
--- "The running count adds each accepted operation's cycles and stops at 1,048,576."
+-- The running count once the operation has passed, before any record takes it.
 unfoldable pub passed : State → State → ℕ → Running
-passed before after cycles =
-    record {
-      count = min (before .running .count + cycles) cap;
-      unknown = cond (occasion before after) 1 (before .running .unknown);
-    }
+passed before after cycles = ran (before .running) (occasion before after) cycles
 
 -- What an operation asks of the records: an event, with what its filter or control says of it, or an effect. An event starts
 -- at the current level; an exception is controlled by the level that it enters, a return by the level that it leaves.

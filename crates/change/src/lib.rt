@@ -2,8 +2,6 @@
 // and "Cycles").
 ghost use mathlib.Core.Path.{_≡_};
 ghost use mathlib.Core.Bool.{cond};
-ghost use Prim.Native.Nat.{_+_, min};
-ghost use Rattle.state.specs.Sound.{cap};
 ghost use Rattle.access.specs.Access.{writeOutcome, iallOutcome, isPerformed, meant, registerWritten};
 ghost use Rattle.change.specs.Change.{changed, occasion, passed, askedOf, effectOf, runningAfter};
 use access::iall_outcome;
@@ -11,7 +9,6 @@ use access::is_performed;
 use access::meant;
 use access::register_written;
 use access::write_outcome;
-use bits::pick;
 use event::Event;
 use event::controlled;
 use event::made;
@@ -19,7 +16,6 @@ use filter::BranchType;
 use operation::Operation;
 use region::prohibited;
 use room::Effect;
-use state::CAP;
 use state::Running;
 use state::State;
 
@@ -81,19 +77,6 @@ pub fn changed(s: State, o: Operation) -> State
     }
 }
 
-// The running count with an operation's cycles: it stops at the cap. No sum can wrap.
-fn capped(count: u64, cycles: u64) -> u64
-    ensures { λ r. ⌜ r ≡ min (count + cycles) cap ⌝ }
-{
-    if CAP <= count {
-        return CAP;
-    }
-    if CAP - count <= cycles {
-        return CAP;
-    }
-    count + cycles
-}
-
 // An operation on which the next count becomes unknown; `after` is the state that it has changed.
 fn occasion(s: State, after: State) -> bool
     ensures { λ r. ⌜ r ≡ occasion s after ⌝ }
@@ -111,10 +94,7 @@ pub fn passed(s: State, after: State, cycles: u64) -> Running
     ensures { λ r. ⌜ r ≡ passed s after cycles ⌝ }
 {
     let r = s.running;
-    Running {
-        count: capped(r.count, cycles),
-        unknown: pick(occasion(s, after), 1, r.unknown),
-    }
+    running::passed(r, occasion(s, after), cycles)
 }
 
 fn branch_asked(s: State, kind: u64, mispredicted: u64, source: u64, target: u64) -> Asked

@@ -1,20 +1,29 @@
 -- What an effect does to the list of records and to the room's other numbers. Whatever stands above the room cites these
 -- laws and never looks at a place in it. They go by induction on the size, three numbers a turn.
-use Prim.Native.Nat.{ℕ, zero, suc, _+_, _*_, _-_, _≤_, zero-le}
+use Prim.Native.Nat.{ℕ, zero, suc, _+_, _*_, _-_, _/_, _≤_, zero-le}
 use native.Mathlib.Nat.{add-assoc}
 use native.Mathlib.Omega.{arith}
 use mathlib.Core.Path.{_≡_, refl, sym, ap, _∙_}
 use mathlib.Core.Bool.{Bool, true, false, cond, _&&_}
+use mathlib.Core.Logic.{⊎-elim}
 use mathlib.Core.List.{List, [], _∷_, _++_}
 use lib.Dec.{leb, ltb, leb·suc-suc}
 use lib.ListN.{length, take, drop, replicate, length-replicate}
 use lib.Seq.{length-take-le, length-front, drop-at, getD-drop}
 use borrow.Author.Tests.{le-leb, le-ltb, lt-ltb, leb-true}
+use Rattle.bits.proofs.Cases.{below-or-not}
 use Rattle.bits.proofs.Each.{first, second}
 use Rattle.room.specs.declared.Record.{Record}
 use Rattle.room.specs.declared.Effect.{Effect}
 use Rattle.room.specs.declared.Effect.the-variants.{Keep, Push, Clear, Start}
 use Rattle.room.specs.Room.{zeroRecord, newest, records, numbered, needed, pushed, cleared, roomAfter, sizeAfterEffect, placed}
+
+-- A third of the room is below a size exactly when the room is below what the size needs: a test that cannot overflow.
+pub third-below : (numbers size : ℕ) → ltb (numbers / 3) size ≡ ltb numbers (needed size)
+third-below numbers size =
+    ⊎-elim (λ h. rw (lt-ltb numbers (needed size) h) (lt-ltb (numbers / 3) size (omega arith)))
+    (λ h. rw (le-ltb numbers (needed size) h) (le-ltb (numbers / 3) size (omega arith)))
+    (below-or-not numbers (needed size))
 
 three : (n : ℕ) → needed (suc n) ≡ suc (suc (suc (needed n)))
 three n = omega arith

@@ -1,4 +1,4 @@
--- The running count with an operation's cycles, as defined.
+-- The running count once the operation has passed, as defined.
 use Rattle.change.specs.Change.{passed}
 use Rattle.change.proofs.passed.Statement.{statement}
 use Rattle.change.proofs.passed.Tie as tie
@@ -8,7 +8,6 @@ unfolding passed
 passed-spec =
     tie.close
     (tie.spec
-    (λ _ _. tt)
     (λ _ _. tt)
     (λ _ _. tt)
     (λ c. cc))

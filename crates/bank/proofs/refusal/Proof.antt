@@ -1,0 +1,20 @@
+-- The first refusal, as defined.
+use borrow.Author.Tests.{lt-ltb, le-ltb}
+use lib.ListN.{length}
+use Rattle.room.proofs.Laws.{third-below}
+use Rattle.bank.specs.Bank.{bankRefusal}
+use Rattle.bank.proofs.refusal.Statement.{statement}
+use Rattle.bank.proofs.refusal.Tie as tie
+
+pub refusal-spec : {M : Type 1} → statement M
+unfolding bankRefusal
+refusal-spec =
+    tie.close
+    (tie.spec
+    (λ c. rw (c .if1 .taken))
+    (λ c.
+    let a = c .before .before .args in
+    rw (c .before .if1 .left, ← third-below (length (a .room .now)) (a .size), lt-ltb _ _ (c .if2 .taken)))
+    (λ c.
+    let a = c .before .before .args in
+    rw (c .before .if1 .left, ← third-below (length (a .room .now)) (a .size), le-ltb _ _ (c .if2 .left))))
