@@ -51,26 +51,11 @@ pub fn changed(s: State, o: Operation) -> State
 {
     match o {
         Operation::Reset { size, v1p1 } => State::after_reset(size, v1p1),
-        Operation::Branch {
-            kind: _,
-            mispredicted: _,
-            source: _,
-            target: _,
-        } => s,
-        Operation::Exception {
-            kind: _,
-            target_level,
-            source: _,
-            target: _,
-        } => s.at_level(target_level),
-        Operation::Return {
-            target_level,
-            mispredicted: _,
-            source: _,
-            target: _,
-        } => s.at_level(target_level),
+        Operation::Branch { .. } => s,
+        Operation::Exception { target_level, .. } => s.at_level(target_level),
+        Operation::Return { target_level, .. } => s.at_level(target_level),
         Operation::Platform { p } => s.with_platform(p),
-        Operation::Read { register: _ } => s,
+        Operation::Read { .. } => s,
         Operation::Write { register, value } => written(s, register, value),
         Operation::Iall => s,
         Operation::Unknown => s,
@@ -169,7 +154,7 @@ fn asked_of(s: State, o: Operation) -> Asked
     ensures { λ x. ⌜ x ≡ askedOf s o ⌝ }
 {
     match o {
-        Operation::Reset { size, v1p1: _ } => Asked::Plain(Effect::Start(size)),
+        Operation::Reset { size, .. } => Asked::Plain(Effect::Start(size)),
         Operation::Branch {
             kind,
             mispredicted,
@@ -188,12 +173,9 @@ fn asked_of(s: State, o: Operation) -> Asked
             source,
             target,
         } => { return_asked(s, target_level, mispredicted, source, target) }
-        Operation::Platform { p: _ } => Asked::Plain(Effect::Keep),
-        Operation::Read { register: _ } => Asked::Plain(Effect::Keep),
-        Operation::Write {
-            register: _,
-            value: _,
-        } => Asked::Plain(Effect::Keep),
+        Operation::Platform { .. } => Asked::Plain(Effect::Keep),
+        Operation::Read { .. } => Asked::Plain(Effect::Keep),
+        Operation::Write { .. } => Asked::Plain(Effect::Keep),
         Operation::Iall => Asked::Plain(iall_effect(s)),
         Operation::Unknown => Asked::Plain(Effect::Keep),
     }

@@ -10,8 +10,8 @@ use lib.ListN.{length}
 use Rattle.state.specs.declared.State.{State}
 use Rattle.state.specs.declared.Loaded.{Loaded}
 use Rattle.state.specs.declared.Loaded.the-variants.{Held, Unsound}
-use Rattle.state.specs.Words.{stored, loaded}
-use Rattle.state.proofs.Laws.{stored-loaded, held}
+use Rattle.state.specs.Words.{loaded}
+use Rattle.state.proofs.Laws.{held, kept}
 use Rattle.access.specs.declared.Outcome.{Outcome}
 use Rattle.access.specs.declared.Outcome.the-variants.{Performed, Undefined, Trap2, Trap3}
 use Rattle.access.specs.Access.{readOutcome, writeOutcome, iallOutcome}
@@ -27,8 +27,9 @@ use Rattle.recording.specs.declared.Reading.{Reading}
 use Rattle.recording.specs.declared.Reading.the-variants.{Malformed, UnknownCode}
 use Rattle.recording.specs.Recording.{operationAt}
 use Rattle.recording.specs.RecordedStep.{recordedStep}
-use Rattle.brb.specs.Face.{leaves, stepLeaves}
-use Rattle.brb.specs.Recordings.{recordedLeft, recordedLeaves}
+use Rattle.brb.specs.Face.{stepLeaves}
+use Rattle.brb.specs.Recordings.{recordedLeaves}
+use Rattle.demands.specs.Unchanged.{unchanged, unchangedRecorded}
 use Rattle.demands.specs.First.{First, here, later, none}
 
 -- ---- refusal-exact: the number is that of the first line of the table whose condition holds, and 0 if none does
@@ -95,61 +96,32 @@ refusal-answered s o cycles room l u = go (ℕ-discrete (refusalOf s o (length r
 pub refused-changes-nothing : (words room : List ℕ) (code cycles a b c d : ℕ)
     → 1 ≤ stepLeaves words code cycles a b c d room .answer .number
     → stepLeaves words code cycles a b c d room .answer .number ≤ 7
-    → stepLeaves words code cycles a b c d room
-    ≡ leaves (record { number = stepLeaves words code cycles a b c d room .answer .number; value = 0 }) words room
+    → stepLeaves words code cycles a b c d room ≡ unchanged words room (stepLeaves words code cycles a b c d room)
 unfolding stepLeaves lentStep
 refused-changes-nothing words room code cycles a b c d l u = go (loaded words) refl
   where
     go : (found : Loaded) → loaded words ≡ found
-        → stepLeaves words code cycles a b c d room
-        ≡ leaves (record { number = stepLeaves words code cycles a b c d room .answer .number; value = 0 }) words room
+        → stepLeaves words code cycles a b c d room ≡ unchanged words room (stepLeaves words code cycles a b c d room)
     go Unsound e = rw e
     go (Held s) e =
-        rw (e, refusal-answered s (operationOf code a b c d) cycles room (rw e at l) (rw e at u), held words s e .0, stored-loaded words)
+        rw (e, refusal-answered s (operationOf code a b c d) cycles room (rw e at l) (rw e at u), kept words s e)
 
 -- The same of a recorded step.
 pub refused-recorded : (words room bytes : List ℕ) (at : ℕ) → 1 ≤ recordedLeaves words room bytes at .answer .number
     → recordedLeaves words room bytes at .answer .number ≤ 7
-    → recordedLeaves words room bytes at
-    ≡ recordedLeft
-    (record {
-      number = recordedLeaves words room bytes at .answer .number;
-      value = 0;
-      next = recordedLeaves words room bytes at .answer .next;
-    })
-    words
-    room
+    → recordedLeaves words room bytes at ≡ unchangedRecorded words room (recordedLeaves words room bytes at)
 unfolding recordedLeaves recordedStep
 refused-recorded words room bytes at l u = go (loaded words) refl
   where
-    kept : (s : State) → loaded words ≡ Held s → stored s words ≡ words
-    kept s e = rw (held words s e .0) (stored-loaded words)
-
     read : (s : State) → loaded words ≡ Held s → (found : Reading) → operationAt bytes at ≡ found
-        → recordedLeaves words room bytes at
-        ≡ recordedLeft
-        (record {
-          number = recordedLeaves words room bytes at .answer .number;
-          value = 0;
-          next = recordedLeaves words room bytes at .answer .next;
-        })
-        words
-        room
+        → recordedLeaves words room bytes at ≡ unchangedRecorded words room (recordedLeaves words room bytes at)
     read s e (Reading.Operation x next) f =
         let h = held words s e .1 in
-        rw (e, h, f, refusal-answered s (operationOf (x .code) (x .a) (x .b) (x .c) (x .d)) (x .cycles) room (rw (e, h, f) at l) (rw (e, h, f) at u), kept s e)
-    read s e (Malformed place) f = rw (e, held words s e .1, f, kept s e)
-    read s e (UnknownCode place) f = rw (e, held words s e .1, f, kept s e)
+        rw (e, h, f, refusal-answered s (operationOf (x .code) (x .a) (x .b) (x .c) (x .d)) (x .cycles) room (rw (e, h, f) at l) (rw (e, h, f) at u), kept words s e)
+    read s e (Malformed place) f = rw (e, held words s e .1, f, kept words s e)
+    read s e (UnknownCode place) f = rw (e, held words s e .1, f, kept words s e)
 
     go : (found : Loaded) → loaded words ≡ found
-        → recordedLeaves words room bytes at
-        ≡ recordedLeft
-        (record {
-          number = recordedLeaves words room bytes at .answer .number;
-          value = 0;
-          next = recordedLeaves words room bytes at .answer .next;
-        })
-        words
-        room
+        → recordedLeaves words room bytes at ≡ unchangedRecorded words room (recordedLeaves words room bytes at)
     go Unsound e = rw e
     go (Held s) e = read s e (operationAt bytes at) refl

@@ -88,31 +88,13 @@ fn code_of(o: Operation) -> u64
     ensures { λ r. ⌜ r ≡ codeOf o ⌝ }
 {
     match o {
-        Operation::Reset { size: _, v1p1: _ } => 0,
-        Operation::Branch {
-            kind: _,
-            mispredicted: _,
-            source: _,
-            target: _,
-        } => 1,
-        Operation::Exception {
-            kind: _,
-            target_level: _,
-            source: _,
-            target: _,
-        } => 2,
-        Operation::Return {
-            target_level: _,
-            mispredicted: _,
-            source: _,
-            target: _,
-        } => 3,
-        Operation::Platform { p: _ } => 4,
-        Operation::Read { register: _ } => 5,
-        Operation::Write {
-            register: _,
-            value: _,
-        } => 6,
+        Operation::Reset { .. } => 0,
+        Operation::Branch { .. } => 1,
+        Operation::Exception { .. } => 2,
+        Operation::Return { .. } => 3,
+        Operation::Platform { .. } => 4,
+        Operation::Read { .. } => 5,
+        Operation::Write { .. } => 6,
         Operation::Iall => 7,
         Operation::Unknown => 8,
     }
@@ -129,8 +111,7 @@ fn outside_list(o: Operation) -> bool
         Operation::Branch {
             kind,
             mispredicted,
-            source: _,
-            target: _,
+            ..
         } => {
             let t = BranchType { code: kind };
             !t.listed() | (1 < mispredicted)
@@ -138,18 +119,16 @@ fn outside_list(o: Operation) -> bool
         Operation::Exception {
             kind,
             target_level,
-            source: _,
-            target: _,
+            ..
         } => { !is_exception_type(kind) | (3 < target_level) }
         Operation::Return {
             target_level,
             mispredicted,
-            source: _,
-            target: _,
+            ..
         } => { (3 < target_level) | (1 < mispredicted) }
         Operation::Platform { p } => !(p & PLATFORM_MASK == p),
         Operation::Read { register } => !((register <= 3) | (32 <= register) & (register <= 127)),
-        Operation::Write { register, value: _ } => {
+        Operation::Write { register, .. } => {
             !((register <= 3) | (32 <= register) & (register <= 127))
         }
         Operation::Iall => false,
@@ -162,37 +141,19 @@ fn not_permitted(s: State, o: Operation) -> bool
     ensures { λ r. ⌜ r ≡ notPermitted s o ⌝ }
 {
     match o {
-        Operation::Reset { size: _, v1p1: _ } => false,
-        Operation::Branch {
-            kind: _,
-            mispredicted: _,
-            source: _,
-            target: _,
-        } => false,
-        Operation::Exception {
-            kind: _,
-            target_level,
-            source: _,
-            target: _,
-        } => {
+        Operation::Reset { .. } => false,
+        Operation::Branch { .. } => false,
+        Operation::Exception { target_level, .. } => {
             let closed = s.closed(target_level);
             (target_level < s.level) | (target_level == 0) | closed
         }
-        Operation::Return {
-            target_level,
-            mispredicted: _,
-            source: _,
-            target: _,
-        } => {
+        Operation::Return { target_level, .. } => {
             let closed = s.closed(target_level);
             (s.level == 0) | (s.level < target_level) | closed
         }
-        Operation::Platform { p: _ } => !(s.level == 3),
-        Operation::Read { register: _ } => false,
-        Operation::Write {
-            register: _,
-            value: _,
-        } => false,
+        Operation::Platform { .. } => !(s.level == 3),
+        Operation::Read { .. } => false,
+        Operation::Write { .. } => false,
         Operation::Iall => false,
         Operation::Unknown => false,
     }
@@ -203,31 +164,13 @@ fn size_after(s: State, o: Operation) -> u64
     ensures { λ r. ⌜ r ≡ sizeAfter s o ⌝ }
 {
     match o {
-        Operation::Reset { size, v1p1: _ } => size,
-        Operation::Branch {
-            kind: _,
-            mispredicted: _,
-            source: _,
-            target: _,
-        } => s.size,
-        Operation::Exception {
-            kind: _,
-            target_level: _,
-            source: _,
-            target: _,
-        } => s.size,
-        Operation::Return {
-            target_level: _,
-            mispredicted: _,
-            source: _,
-            target: _,
-        } => s.size,
-        Operation::Platform { p: _ } => s.size,
-        Operation::Read { register: _ } => s.size,
-        Operation::Write {
-            register: _,
-            value: _,
-        } => s.size,
+        Operation::Reset { size, .. } => size,
+        Operation::Branch { .. } => s.size,
+        Operation::Exception { .. } => s.size,
+        Operation::Return { .. } => s.size,
+        Operation::Platform { .. } => s.size,
+        Operation::Read { .. } => s.size,
+        Operation::Write { .. } => s.size,
         Operation::Iall => s.size,
         Operation::Unknown => s.size,
     }

@@ -97,31 +97,13 @@ fn answer_of(s: State, room: &[u64], o: Operation) -> Answer
     ensures { λ r. ⌜ r ≡ answerOf s o (now (room .entry)) ⌝ }
 {
     match o {
-        Operation::Reset { size: _, v1p1: _ } => Answer::Done,
-        Operation::Branch {
-            kind: _,
-            mispredicted: _,
-            source: _,
-            target: _,
-        } => Answer::Done,
-        Operation::Exception {
-            kind: _,
-            target_level: _,
-            source: _,
-            target: _,
-        } => Answer::Done,
-        Operation::Return {
-            target_level: _,
-            mispredicted: _,
-            source: _,
-            target: _,
-        } => Answer::Done,
-        Operation::Platform { p: _ } => Answer::Done,
+        Operation::Reset { .. } => Answer::Done,
+        Operation::Branch { .. } => Answer::Done,
+        Operation::Exception { .. } => Answer::Done,
+        Operation::Return { .. } => Answer::Done,
+        Operation::Platform { .. } => Answer::Done,
         Operation::Read { register } => read_answer(s, room, register),
-        Operation::Write { register, value: _ } => answered(
-            write_outcome(s, register),
-            Answer::Done,
-        ),
+        Operation::Write { register, .. } => answered(write_outcome(s, register), Answer::Done),
         Operation::Iall => answered(iall_outcome(s), Answer::Done),
         Operation::Unknown => Answer::Done,
     }

@@ -38,3 +38,7 @@ held w s e = go (either (leb stateNumbers (length w) && sound (stateOf w)))
         let same : s ≡ stateOf w = cc (rw h at e) in
         (same, rw same (second (leb stateNumbers (length w)) (sound (stateOf w)) h))
     go (inr h) = never (cc (rw h at e))
+
+-- Storing what was loaded leaves the lent numbers as they were.
+pub kept : (w : List ℕ) (s : State) → loaded w ≡ Held s → stored s w ≡ w
+kept w s e = rw (held w s e .0) (stored-loaded w)

@@ -7,8 +7,8 @@ use mathlib.Core.List.{List}
 use denote.Ref.{now}
 use Rattle.state.specs.declared.State.{State}
 use Rattle.state.specs.declared.Loaded.the-variants.{Held}
-use Rattle.state.specs.Words.{stored, loaded}
-use Rattle.state.proofs.Laws.{held, stored-loaded}
+use Rattle.state.specs.Words.{loaded}
+use Rattle.state.proofs.Laws.{held, kept}
 use Rattle.recorder.specs.Step.{numberOf, valueOf}
 use Rattle.recorder.specs.Lent.{Lent}
 use Rattle.recording.specs.Recording.{operationAt}
@@ -26,10 +26,6 @@ of-held : (words room bytes : List ℕ) (at : ℕ) (s : State) → loaded words 
     → recordedLeaves words room bytes at ≡ ofRecorded words (stepOfReading s room (operationAt bytes at))
 unfolding recordedLeaves recordedStep
 of-held words room bytes at s e = rw (e, held words s e .1)
-
--- A refusal in reading leaves the lent numbers as they were.
-kept : (words : List ℕ) (s : State) → loaded words ≡ Held s → stored s words ≡ words
-kept words s e = rw (held words s e .0) (stored-loaded words)
 
 unsound : tie.Need-returns
 unfolding recordedLeaves
