@@ -172,6 +172,10 @@ fn open_named(program: &[u8], name: &[u8]) -> Input {
     if same(name, b"-") {
         return Input::Opened(STDIN_FILENO);
     }
+    if name.len() == 0 {
+        complain(program, b"the input's name is empty", b"");
+        return Input::Nothing;
+    }
     let descriptor = os::open_read(name);
     if descriptor < 0 {
         io::write_all(STDERR_FILENO, program);

@@ -1,0 +1,224 @@
+// A recording, as one line an operation on standard output.
+use arguments::Input;
+use arguments::look;
+use libc::STDERR_FILENO;
+use number::Found;
+use number::number_at;
+use output::ROOM;
+use output::flush;
+use output::forward;
+use output::within;
+use readable::LONGEST_LINE;
+use readable::put_line;
+use recording::Numbers;
+use recording::Reading;
+use recording::operation_at;
+use std::num::wrapping_add_u64;
+
+// An operation has at most so many bytes: six numbers of ten. Fewer are looked at only where the input has ended.
+const LONGEST: usize = 60;
+
+// What of the input is in its buffer, from `start` to `end`; `before` bytes went before the buffer's first.
+struct Place {
+    start: usize,
+    end: usize,
+    before: u64,
+    // The input has no more.
+    ended: bool,
+    // How many bytes of the output are waiting.
+    waiting: usize,
+    // Whether to go on.
+    going: bool,
+}
+
+// Nothing more is read or listed.
+fn stopped(p: Place) -> Place {
+    Place {
+        start: p.start,
+        end: p.end,
+        before: p.before,
+        ended: p.ended,
+        waiting: p.waiting,
+        going: false,
+    }
+}
+
+// The same, with nothing that waits.
+fn emptied(p: Place) -> Place {
+    Place {
+        start: p.start,
+        end: p.end,
+        before: p.before,
+        ended: p.ended,
+        waiting: 0,
+        going: false,
+    }
+}
+
+// Moves the bytes from `start` to `end` to the front, and answers how many they are.
+fn move_down(bytes: &mut [u8], start: usize, end: usize) -> usize {
+    let stop = within(end, bytes);
+    let mut to = 0;
+    let mut from = start;
+    while from < stop {
+        bytes[to] = bytes[from];
+        to += 1;
+        from += 1;
+    }
+    to
+}
+
+// Reads once, behind the first bytes, and answers how many came, 0 at the input's end and below 0 where it cannot be read.
+fn read_behind(input: i32, bytes: &mut [u8], left: usize) -> isize {
+    let start = within(left, bytes);
+    libc::read(input, &mut bytes[start..])
+}
+
+// Makes room at the front and reads once.
+fn refilled(input: i32, bytes: &mut [u8; ROOM], p: Place) -> Place {
+    let left = move_down(bytes, p.start, p.end);
+    let got = read_behind(input, bytes, left);
+    if got < 0 {
+        os::fail(b"list: the input cannot be read");
+        return stopped(p);
+    }
+    let came = io::count(got, bytes);
+    Place {
+        start: 0,
+        end: forward(left, came),
+        before: wrapping_add_u64(p.before, p.start as u64),
+        ended: got == 0,
+        waiting: p.waiting,
+        going: true,
+    }
+}
+
+// The operation at a place of the bytes up to `end`.
+fn reading_at(bytes: &[u8], end: usize, at: usize) -> Reading {
+    let n = within(end, bytes);
+    operation_at(&bytes[..n], at)
+}
+
+fn found_at(bytes: &[u8], end: usize, at: usize) -> Found {
+    let n = within(end, bytes);
+    number_at(&bytes[..n], at)
+}
+
+// What is wrong with the number that starts at this byte of the input: a number that can be read is an unknown code.
+fn say(byte: u64, found: Found) {
+    io::write_all(STDERR_FILENO, b"list: byte ");
+    io::print_decimal(STDERR_FILENO, byte);
+    io::write_all(STDERR_FILENO, b": ");
+    match found {
+        Found::Value(code, _) => {
+            io::write_all(STDERR_FILENO, b"a code is at most 7, and ");
+            io::print_decimal(STDERR_FILENO, code);
+            io::write_all(STDERR_FILENO, b" stands here\n");
+        }
+        Found::Malformed => {
+            io::write_all(STDERR_FILENO, b"a malformed number\n");
+        }
+        Found::Ended => {
+            io::write_all(STDERR_FILENO, b"the input ends inside an operation\n");
+        }
+    }
+}
+
+// The lines before go out first, then the message.
+fn refused(bytes: &[u8; ROOM], out: &[u8; ROOM], p: Place, at: usize) -> Place {
+    flush(b"list", out, p.waiting);
+    let found = found_at(bytes, p.end, at);
+    say(wrapping_add_u64(p.before, at as u64), found);
+    emptied(p)
+}
+
+// The place after an operation, whose line is written. What waits goes out before, where a long line might have no room.
+fn listed(out: &mut [u8; ROOM], numbers: bool, p: Place, x: Numbers, next: usize) -> Place {
+    let mut waiting = p.waiting;
+    if ROOM - LONGEST_LINE < waiting {
+        let is_out = flush(b"list", out, waiting);
+        waiting = 0;
+        if !is_out {
+            return emptied(p);
+        }
+    }
+    Place {
+        start: next,
+        end: p.end,
+        before: p.before,
+        ended: p.ended,
+        waiting: put_line(out, waiting, numbers, x),
+        going: p.going,
+    }
+}
+
+// Lists the operation that stands next.
+fn operation_listed(bytes: &[u8; ROOM], out: &mut [u8; ROOM], numbers: bool, p: Place) -> Place {
+    match reading_at(bytes, p.end, p.start) {
+        Reading::Operation(x, next) => listed(out, numbers, p, x, next),
+        Reading::Malformed(at) => refused(bytes, out, p, at),
+        Reading::UnknownCode(at) => refused(bytes, out, p, at),
+    }
+}
+
+fn left_of(p: Place) -> usize {
+    if p.start < p.end { p.end - p.start } else { 0 }
+}
+
+// Lists an operation, or reads once where too little is there to be sure of a whole one.
+fn turn(
+    input: i32,
+    numbers: bool,
+    bytes: &mut [u8; ROOM],
+    out: &mut [u8; ROOM],
+    p: Place,
+) -> Place {
+    let left = left_of(p);
+    if (left < LONGEST) & !p.ended {
+        return refilled(input, bytes, p);
+    }
+    if left == 0 {
+        return stopped(p);
+    }
+    operation_listed(bytes, out, numbers, p)
+}
+
+// A proved loop has to end, and nothing says that the input does. So the loop counts its turns down, from a number that
+// no run uses up.
+fn list_all(input: i32, numbers: bool) {
+    let mut bytes = io::large_buffer();
+    let mut out = io::large_buffer();
+    let mut place = Place {
+        start: 0,
+        end: 0,
+        before: 0,
+        ended: false,
+        waiting: 0,
+        going: true,
+    };
+    let mut turns = u64::MAX;
+    while turns > 0 && place.going {
+        place = turn(input, numbers, &mut bytes, &mut out, place);
+        turns -= 1;
+    }
+    finish(&out, place);
+}
+
+// What waits goes out.
+fn finish(out: &[u8; ROOM], p: Place) {
+    flush(b"list", out, p.waiting);
+}
+
+fn main() {
+    let usage =
+        b"usage: list [--numbers] [FILE]\n\nWrites one line for each operation of the recording FILE, or of standard input where FILE is - or missing.\n\n  --numbers   each operation as its own numbers in decimal, which pack reads back\n  --help      this text\n\nA recording that cannot be read on is said on standard error, with the byte where its bad number starts, after the\nlines of the operations before it.\n";
+    let called = look(b"list", usage, true);
+    let input = called.input;
+    match input {
+        Input::Opened(descriptor) => {
+            list_all(descriptor, called.numbers);
+            libc::close(descriptor);
+        }
+        Input::Nothing => {}
+    }
+}

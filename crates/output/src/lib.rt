@@ -1,0 +1,43 @@
+// What a program writes: bytes wait in lent room, and go out when it fills.
+ghost use Prim.Native.Nat.{_+_, _≤_, min};
+ghost use mathlib.Core.Path.{_≡_};
+ghost use Rattle.io.specs.Counts.{Counts};
+use libc::STDERR_FILENO;
+use libc::STDOUT_FILENO;
+
+// The bytes that a program's output has room for.
+pub const ROOM: usize = 65_536;
+
+// So many of the bytes, or all.
+pub fn within(n: usize, bytes: &[u8]) -> usize
+    ensures { λ r. ⌜ Counts r (now (bytes .entry)) ⌝ }
+{
+    if bytes.len() < n {
+        return bytes.len();
+    }
+    n
+}
+
+// The place n bytes on, and never past the room.
+pub fn forward(at: usize, n: usize) -> usize
+    ensures { λ r. ⌜ r ≡ min (at + n) 65536 ⌝ }
+{
+    if ROOM < at {
+        return ROOM;
+    }
+    if ROOM - at < n {
+        return ROOM;
+    }
+    at + n
+}
+
+// The first bytes go out to standard output. Answers whether they did; a message says so where not.
+pub fn flush(program: &[u8], bytes: &[u8], waiting: usize) -> bool {
+    let n = within(waiting, bytes);
+    let is_written = io::write_all(STDOUT_FILENO, &bytes[..n]);
+    if !is_written {
+        io::write_all(STDERR_FILENO, program);
+        os::fail(b": standard output");
+    }
+    is_written
+}
