@@ -92,7 +92,8 @@ fn stopped(out: &[u8; ROOM], work: Work) -> Work {
     }
 }
 
-// An operation's bytes, behind what waits.
+// An operation's bytes, behind what waits. No operation that was read is refused: its code is at most 7, and the longest
+// has room.
 fn put(out: &mut [u8; ROOM], waiting: usize, x: Numbers, parser: Parser) -> Work {
     match write_operation(out, waiting, x) {
         Writing::Wrote(n) => Work {
@@ -100,11 +101,17 @@ fn put(out: &mut [u8; ROOM], waiting: usize, x: Numbers, parser: Parser) -> Work
             waiting: forward(waiting, n),
             going: true,
         },
-        Writing::Refused(_) => Work {
-            parser,
-            waiting,
-            going: false,
-        },
+        Writing::Refused(_) => {
+            io::write_all(STDERR_FILENO, b"pack: an operation was not written\n");
+            stopped(
+                out,
+                Work {
+                    parser,
+                    waiting,
+                    going: false,
+                },
+            )
+        }
     }
 }
 
