@@ -1,6 +1,5 @@
 -- One operation of a replay: the recorded step, and its line behind those that stand in the lent bytes already.
 use Prim.Native.Nat.{ℕ, _+_}
-use mathlib.Core.Bool.{Bool}
 use mathlib.Core.List.{List}
 use Rattle.state.specs.declared.State.{State}
 use Rattle.recording.specs.RecordedStep.{Recorded, recordedStep, stopsReading}

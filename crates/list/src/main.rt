@@ -1,13 +1,14 @@
 // A recording, as one line an operation on standard output.
 use arguments::Input;
 use arguments::look;
+use buffer::ROOM;
+use buffer::flush;
+use buffer::forward;
+use buffer::move_down;
+use buffer::within;
 use libc::STDERR_FILENO;
 use number::Found;
 use number::number_at;
-use output::ROOM;
-use output::flush;
-use output::forward;
-use output::within;
 use readable::LONGEST_LINE;
 use readable::put_line;
 use recording::Numbers;
@@ -53,19 +54,6 @@ fn emptied(p: Place) -> Place {
         waiting: 0,
         going: false,
     }
-}
-
-// Moves the bytes from `start` to `end` to the front, and answers how many they are.
-fn move_down(bytes: &mut [u8], start: usize, end: usize) -> usize {
-    let stop = within(end, bytes);
-    let mut to = 0;
-    let mut from = start;
-    while from < stop {
-        bytes[to] = bytes[from];
-        to += 1;
-        from += 1;
-    }
-    to
 }
 
 // Reads once, behind the first bytes, and answers how many came, 0 at the input's end and below 0 where it cannot be read.

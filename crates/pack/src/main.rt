@@ -1,6 +1,9 @@
 // Numbers as text, to a recording on standard output.
 use arguments::Input;
 use arguments::look;
+use buffer::ROOM;
+use buffer::flush;
+use buffer::forward;
 use libc::STDERR_FILENO;
 use notation::Parser;
 use notation::Problem;
@@ -9,9 +12,6 @@ use notation::at_end;
 use notation::at_line;
 use notation::byte_step;
 use notation::fields_of;
-use output::ROOM;
-use output::flush;
-use output::forward;
 use recording::Numbers;
 use recording::Writing;
 use recording::write_operation;

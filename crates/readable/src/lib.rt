@@ -1,8 +1,8 @@
 // An operation as a line of text, readable or as its numbers. Each function writes at a place of the output's room and
 // answers the place after it; what has no room is left out, which the program sees to that it does not happen.
+use buffer::ROOM;
+use buffer::forward;
 use notation::fields_of;
-use output::ROOM;
-use output::forward;
 use recording::Numbers;
 use text::write_decimal;
 use text::write_hexadecimal;

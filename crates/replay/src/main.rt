@@ -5,6 +5,7 @@ ghost use Prim.Native.Nat.{_≤_};
 ghost use lib.ListN.{length};
 use arguments::Input;
 use arguments::look;
+use buffer::move_down;
 use libc::STDOUT_FILENO;
 use line::LONGEST_LINE;
 use line::replay_one;
@@ -50,25 +51,6 @@ fn fresh() -> Progress {
         ended: false,
         going: true,
     }
-}
-
-// Moves the bytes from `at` to `end` to the front, and answers how many they are.
-fn move_down(input: &mut [u8], at: usize, end: usize) -> usize
-    ensures { λ r. ⌜ r ≤ length (now (input .exit)) ⌝ }
-{
-    if input.len() < end {
-        return 0;
-    }
-    if end < at {
-        return 0;
-    }
-    let count = end - at;
-    let mut i = 0;
-    while i < count {
-        input[i] = input[at + i];
-        i += 1;
-    }
-    count
 }
 
 // Brings more of the file behind the bytes that are left. What keeps it from being read is said.

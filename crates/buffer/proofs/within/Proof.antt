@@ -1,12 +1,11 @@
 -- A number of bytes that there are.
 use mathlib.Core.Path.{sym}
-use borrow.Author.Needs.{needs}
 use native.Mathlib.Omega.{arith}
 use lib.ListN.{length}
 use lib.Seq.{length-take-le}
 use denote.Ref.{now}
-use Rattle.output.proofs.within.Statement.{statement}
-use Rattle.output.proofs.within.Tie as tie
+use Rattle.buffer.proofs.within.Statement.{statement}
+use Rattle.buffer.proofs.within.Tie as tie
 
 pub within-spec : {M : Type 1} → statement M
 within-spec =

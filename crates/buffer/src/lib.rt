@@ -1,6 +1,7 @@
-// What a program writes: bytes wait in lent room, and go out when it fills.
+// A program's two buffers: what was read waits until it is used, and what is to be written until the room fills.
 ghost use Prim.Native.Nat.{_+_, _≤_, min};
 ghost use mathlib.Core.Path.{_≡_};
+ghost use lib.ListN.{length};
 ghost use Rattle.io.specs.Counts.{Counts};
 use libc::STDERR_FILENO;
 use libc::STDOUT_FILENO;
@@ -40,4 +41,23 @@ pub fn flush(program: &[u8], bytes: &[u8], waiting: usize) -> bool {
         os::fail(b": standard output");
     }
     is_written
+}
+
+// Moves the bytes from `at` to `end` to the front, and answers how many they are.
+pub fn move_down(input: &mut [u8], at: usize, end: usize) -> usize
+    ensures { λ r. ⌜ r ≤ length (now (input .exit)) ⌝ }
+{
+    if input.len() < end {
+        return 0;
+    }
+    if end < at {
+        return 0;
+    }
+    let count = end - at;
+    let mut i = 0;
+    while i < count {
+        input[i] = input[at + i];
+        i += 1;
+    }
+    count
 }

@@ -4,8 +4,8 @@ use borrow.Author.Needs.{needs}
 use mathlib.Core.Path.{_≡_, refl}
 use native.Mathlib.Omega.{arith}
 use lib.ListN.{length, length-set}
-use Rattle.replay.proofs.move_down.Statement.{statement}
-use Rattle.replay.proofs.move_down.Tie as tie
+use Rattle.buffer.proofs.move_down.Statement.{statement}
+use Rattle.buffer.proofs.move_down.Tie as tie
 
 abbrev Inv-loop : tie.InvT-loop
 Inv-loop input₀ at end count i₀ input i = (i ≤ count) × (length input ≡ length input₀)
