@@ -16,15 +16,9 @@ fn main() -> ExitCode {
             eprintln!("replay: {file}: {error}");
             ExitCode::FAILURE
         }
-        Ok(bytes) => {
-            let mut text = model::replay::lines(&bytes).join("\n");
-            if !text.is_empty() {
-                text.push('\n');
-            }
-            match std::io::stdout().write_all(text.as_bytes()) {
-                Ok(()) => ExitCode::SUCCESS,
-                Err(_) => ExitCode::FAILURE,
-            }
-        }
+        Ok(bytes) => match std::io::stdout().write_all(model::replay::text(&bytes).as_bytes()) {
+            Ok(()) => ExitCode::SUCCESS,
+            Err(_) => ExitCode::FAILURE,
+        },
     }
 }
