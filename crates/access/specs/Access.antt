@@ -2,14 +2,15 @@
 use Prim.Native.Nat.{ℕ, _+_, _*_, _/_, _%_}
 use mathlib.Core.Bool.{Bool, true, false, cond, _&&_, _||_, not}
 use lib.Dec.{eqb, leb}
+use lib.Bits.{bitAnd}
 use mathlib.Core.List.{List}
+use Rattle.answer.specs.declared.Answer.{Answer}
+use Rattle.answer.specs.declared.Answer.the-variants.{Done, Undefined, Trap2, Trap3}
 use Rattle.state.specs.declared.State.{State}
-use Rattle.state.specs.Named.{NS, E2H, SBRBE, FGTEn, nBRBDATA, nBRBCTLRead, nBRBCTLWrite, nBRBIDR, nBRBIALL, EL2Enabled, BANK}
-use Rattle.state.specs.Sound.{kept, controlMask, filterMask}
+use Rattle.state.specs.Named.{NS, E2H, SBRBE, FGTEn, nBRBDATA, nBRBCTLRead, nBRBCTLWrite, nBRBIDR, nBRBIALL, EL2Enabled, BANK, withRegisters}
+use Rattle.state.specs.Sound.{controlMask, filterMask}
 use Rattle.room.specs.declared.Record.{Record}
 use Rattle.room.specs.Room.{numbered}
-use Rattle.access.specs.declared.Outcome.{Outcome}
-use Rattle.access.specs.declared.Outcome.the-variants.{Performed, Undefined, Trap2, Trap3}
 
 -- "Registers: 0 BRBIDR0_EL1, 1 BRBCR_EL1, 2 BRBCR_EL2, 3 BRBFCR_EL1; with m from 0 to 31, 32+m BRBINF, 64+m BRBSRC,
 -- 96+m BRBTGT."
@@ -35,31 +36,26 @@ trapped3 s =
     (eqb (s .level) 1 || eqb (s .level) 2)
     && (not (NS s) && not (eqb (SBRBE s) 3) || NS s && (eqb (SBRBE s) 0 || eqb (SBRBE s) 2))
 
--- "EL0: UNDEFINED." Then what is undefined of the access itself, then the traps. "EL3 has no traps."
-unfoldable pub outcome : State → Bool → Bool → Outcome
+-- How an access ends: done where it is performed. "EL0: UNDEFINED." Then what is undefined of the access itself, then the
+-- traps. "EL3 has no traps."
+unfoldable pub outcome : State → Bool → Bool → Answer
 outcome s undefined nbit =
-    cond (eqb (s .level) 0 || undefined) Undefined (cond (trapped2 s nbit) Trap2 (cond (trapped3 s) Trap3 Performed))
+    cond (eqb (s .level) 0 || undefined) Undefined (cond (trapped2 s nbit) Trap2 (cond (trapped3 s) Trap3 Done))
 
 -- "Register 2 at EL1: UNDEFINED."
 abbrev pub hiddenRegister : State → ℕ → Bool
 hiddenRegister s r = eqb (s .level) 1 && eqb r 2
 
-unfoldable pub readOutcome : State → ℕ → Outcome
+unfoldable pub readOutcome : State → ℕ → Answer
 readOutcome s r = outcome s (hiddenRegister s r) (permitted s false r)
 
 -- "Writing 0 or a record register: UNDEFINED."
-unfoldable pub writeOutcome : State → ℕ → Outcome
+unfoldable pub writeOutcome : State → ℕ → Answer
 writeOutcome s r = outcome s (eqb r 0 || isRecordRegister r || hiddenRegister s r) (permitted s true r)
 
 -- BRB IALL is an access by nBRBIALL.
-unfoldable pub iallOutcome : State → Outcome
+unfoldable pub iallOutcome : State → Answer
 iallOutcome s = outcome s false (nBRBIALL s)
-
-abbrev pub isPerformed : Outcome → Bool
-isPerformed Performed = true
-isPerformed Undefined = false
-isPerformed Trap2 = false
-isPerformed Trap3 = false
 
 -- "At EL2 with E2H 1, register 1 means register 2."
 abbrev pub meant : State → ℕ → ℕ
@@ -84,13 +80,5 @@ registerValue s list r =
 -- A performed write: "Writes keep only these bits".
 unfoldable pub registerWritten : State → ℕ → ℕ → State
 registerWritten s r value =
-    record {
-      level = s .level;
-      size = s .size;
-      v1p1 = s .v1p1;
-      p = s .p;
-      brbcr1 = cond (eqb r 1) (kept controlMask value) (s .brbcr1);
-      brbcr2 = cond (eqb r 2) (kept controlMask value) (s .brbcr2);
-      brbfcr = cond (eqb r 3) (kept filterMask value) (s .brbfcr);
-      running = s .running;
-    }
+    let control = bitAnd value controlMask in
+    withRegisters (cond (eqb r 1) control (s .brbcr1)) (cond (eqb r 2) control (s .brbcr2)) (cond (eqb r 3) (bitAnd value filterMask) (s .brbfcr)) s

@@ -2,7 +2,8 @@
 ghost use mathlib.Core.Path.{_≡_};
 ghost use mathlib.Core.Bool.{true, false};
 ghost use Rattle.room.specs.Room.{records};
-ghost use Rattle.access.specs.Access.{permitted, trapped2, trapped3, outcome, readOutcome, writeOutcome, iallOutcome, isPerformed, meant, shownNumber, registerValue, registerWritten};
+ghost use Rattle.access.specs.Access.{permitted, trapped2, trapped3, outcome, readOutcome, writeOutcome, iallOutcome, meant, shownNumber, registerValue, registerWritten};
+use answer::Answer;
 use bits::pick;
 use bits::pick_bool;
 use room::record_at;
@@ -28,16 +29,6 @@ const NBRBCTL_WRITE: u64 = 0x800;
 const NBRBIDR: u64 = 0x1000;
 
 const NBRBIALL: u64 = 0x2000;
-
-// How an access ends.
-pub enum Outcome {
-    Performed,
-    Undefined,
-    // Trapped to EL2.
-    Trap2,
-    // Trapped to EL3.
-    Trap3,
-}
 
 // The bit of P that permits an access to the register at EL1.
 fn permitted(s: State, writing: bool, r: u64) -> bool
@@ -67,30 +58,31 @@ fn trapped3(s: State) -> bool
     ((s.level == 1) | (s.level == 2)) & (!ns & !(sbrbe == 3) | ns & ((sbrbe == 0) | (sbrbe == 2)))
 }
 
-// How an access ends, where `undefined` says what is undefined of the access itself, and `nbit` is its n-bit of P.
-pub fn access_outcome(s: State, undefined: bool, nbit: bool) -> Outcome
+// How an access ends, done where it is performed: `undefined` says what is undefined of the access itself, and
+// `nbit` is its n-bit of P.
+pub fn access_outcome(s: State, undefined: bool, nbit: bool) -> Answer
     ensures { λ x. ⌜ x ≡ outcome s undefined nbit ⌝ }
 {
     if (s.level == 0) | undefined {
-        return Outcome::Undefined;
+        return Answer::Undefined;
     }
     if trapped2(s, nbit) {
-        return Outcome::Trap2;
+        return Answer::Trap2;
     }
     if trapped3(s) {
-        return Outcome::Trap3;
+        return Answer::Trap3;
     }
-    Outcome::Performed
+    Answer::Done
 }
 
-pub fn read_outcome(s: State, r: u64) -> Outcome
+pub fn read_outcome(s: State, r: u64) -> Answer
     ensures { λ x. ⌜ x ≡ readOutcome s r ⌝ }
 {
     let nbit = permitted(s, false, r);
     access_outcome(s, (s.level == 1) & (r == 2), nbit)
 }
 
-pub fn write_outcome(s: State, r: u64) -> Outcome
+pub fn write_outcome(s: State, r: u64) -> Answer
     ensures { λ x. ⌜ x ≡ writeOutcome s r ⌝ }
 {
     let nbit = permitted(s, true, r);
@@ -98,19 +90,8 @@ pub fn write_outcome(s: State, r: u64) -> Outcome
     access_outcome(s, undefined, nbit)
 }
 
-pub fn is_performed(ended: Outcome) -> bool
-    ensures { λ r. ⌜ r ≡ isPerformed ended ⌝ }
-{
-    match ended {
-        Outcome::Performed => true,
-        Outcome::Undefined => false,
-        Outcome::Trap2 => false,
-        Outcome::Trap3 => false,
-    }
-}
-
 // How BRB IALL ends.
-pub fn iall_outcome(s: State) -> Outcome
+pub fn iall_outcome(s: State) -> Answer
     ensures { λ r. ⌜ r ≡ iallOutcome s ⌝ }
 {
     access_outcome(s, false, s.p / NBRBIALL % 2 == 1)
@@ -147,15 +128,9 @@ pub fn register_value(s: State, room: &[u64], r: u64) -> u64
 pub fn register_written(s: State, r: u64, value: u64) -> State
     ensures { λ x. ⌜ x ≡ registerWritten s r value ⌝ }
 {
-    let running = s.running;
-    State {
-        level: s.level,
-        size: s.size,
-        v1p1: s.v1p1,
-        p: s.p,
-        brbcr1: pick(r == 1, value & CONTROL_MASK, s.brbcr1),
-        brbcr2: pick(r == 2, value & CONTROL_MASK, s.brbcr2),
-        brbfcr: pick(r == 3, value & FILTER_MASK, s.brbfcr),
-        running,
-    }
+    let control = value & CONTROL_MASK;
+    let brbcr1 = pick(r == 1, control, s.brbcr1);
+    let brbcr2 = pick(r == 2, control, s.brbcr2);
+    let brbfcr = pick(r == 3, value & FILTER_MASK, s.brbfcr);
+    s.with_registers(brbcr1, brbcr2, brbfcr)
 }

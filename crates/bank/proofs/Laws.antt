@@ -15,7 +15,7 @@ use Rattle.state.specs.Named.{sizes}
 use Rattle.room.specs.declared.Record.{Record}
 use Rattle.room.specs.Room.{zeroRecord, records, numbered, needed}
 use Rattle.room.proofs.Laws.{record-number}
-use Rattle.bank.specs.declared.Shown.the-variants.{Value, Refused}
+use Rattle.answer.specs.declared.Answer.the-variants.{Value, Refused}
 use Rattle.bank.specs.Bank.{bankRefusal, bankRecord, bankStart, shownFrom, bankShows}
 
 -- "or 0 if that is not below the size"

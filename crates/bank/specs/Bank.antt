@@ -9,8 +9,8 @@ use Rattle.bits.specs.Bits.{oneOf}
 use Rattle.state.specs.Named.{sizes}
 use Rattle.room.specs.declared.Record.{Record}
 use Rattle.room.specs.Room.{zeroRecord, records, numbered, needed}
-use Rattle.bank.specs.declared.Shown.{Shown}
-use Rattle.bank.specs.declared.Shown.the-variants.{Value, Refused}
+use Rattle.answer.specs.declared.Answer.{Answer}
+use Rattle.answer.specs.declared.Answer.the-variants.{Value, Refused}
 
 -- "It refuses a size outside 8, 16, 32 and 64, a BANK above 3 or an m above 31 with 4, then room too short with 6."
 unfoldable pub bankRefusal : ℕ → ℕ → ℕ → List ℕ → ℕ
@@ -31,16 +31,7 @@ abbrev pub bankStart : ℕ → ℕ
 bankStart bank = 32 * (bank % 4)
 
 -- One register of it: `register` is the record's BRBINF, BRBSRC or BRBTGT.
-unfoldable pub bankShows : (Record → ℕ) → ℕ → ℕ → ℕ → List ℕ → Shown
+unfoldable pub bankShows : (Record → ℕ) → ℕ → ℕ → ℕ → List ℕ → Answer
 bankShows register size bank m room =
     cond (eqb (bankRefusal size bank m room) 0) (Value (register (bankRecord size bank m room)))
     (Refused (bankRefusal size bank m room))
-
--- Its answer as document 01's numbers.
-abbrev pub numberOf : Shown → ℕ
-numberOf (Value v) = 0
-numberOf (Refused n) = n
-
-abbrev pub valueOf : Shown → ℕ
-valueOf (Value v) = v
-valueOf (Refused n) = 0

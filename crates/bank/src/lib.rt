@@ -4,42 +4,13 @@
 ghost use mathlib.Core.Path.{_≡_};
 ghost use mathlib.Core.Bool.{cond};
 ghost use lib.Dec.{eqb};
-ghost use Rattle.bank.specs.Bank.{bankRefusal, bankStart, shownFrom, bankShows, numberOf, valueOf};
+ghost use Rattle.bank.specs.Bank.{bankRefusal, bankStart, shownFrom, bankShows};
+use answer::Answer;
 use room::Record;
 use room::record_at;
 
 // How many records a bank shows.
 const BANKED: u64 = 32;
-
-// What the bank view answers.
-pub enum Shown {
-    // The number of the record's register.
-    Value(u64),
-    // The number of the refusal.
-    Refused(u64),
-}
-
-impl Shown {
-    // Document 01's number: 0, or a refusal's.
-    pub fn number(self) -> u64
-        ensures { λ r. ⌜ r ≡ numberOf self ⌝ }
-    {
-        match self {
-            Shown::Value(_) => 0,
-            Shown::Refused(n) => n,
-        }
-    }
-
-    // The value, 0 where the view refuses.
-    pub fn value(self) -> u64
-        ensures { λ r. ⌜ r ≡ valueOf self ⌝ }
-    {
-        match self {
-            Shown::Value(v) => v,
-            Shown::Refused(_) => 0,
-        }
-    }
-}
 
 // The records of a room, as one bank shows them: `start` is the number of the bank's first record.
 pub struct BankView<'a> {
@@ -163,18 +134,18 @@ fn bank_start(bank: u64) -> u64
     BANKED * (bank % 4)
 }
 
-fn answered(refusal: u64, value: u64) -> Shown
-    ensures { λ r. ⌜ r ≡ cond (eqb refusal 0) (Shown.Value value) (Shown.Refused refusal) ⌝ }
+fn answered(refusal: u64, value: u64) -> Answer
+    ensures { λ r. ⌜ r ≡ cond (eqb refusal 0) (Answer.Value value) (Answer.Refused refusal) ⌝ }
 {
     if refusal == 0 {
-        Shown::Value(value)
+        Answer::Value(value)
     } else {
-        Shown::Refused(refusal)
+        Answer::Refused(refusal)
     }
 }
 
 // BRBINF of register m in a bank of a room, or a refusal.
-pub fn bank_inf(room: &[u64], size: u64, bank: u64, m: u64) -> Shown
+pub fn bank_inf(room: &[u64], size: u64, bank: u64, m: u64) -> Answer
     ensures { λ r. ⌜ r ≡ bankShows (λ x. x .inf) size bank m (now (room .entry)) ⌝ }
 {
     let value = inf_viewed(room, size, bank_start(bank), m);
@@ -182,7 +153,7 @@ pub fn bank_inf(room: &[u64], size: u64, bank: u64, m: u64) -> Shown
 }
 
 // BRBSRC of register m in a bank of a room, or a refusal.
-pub fn bank_source(room: &[u64], size: u64, bank: u64, m: u64) -> Shown
+pub fn bank_source(room: &[u64], size: u64, bank: u64, m: u64) -> Answer
     ensures { λ r. ⌜ r ≡ bankShows (λ x. x .source) size bank m (now (room .entry)) ⌝ }
 {
     let value = source_viewed(room, size, bank_start(bank), m);
@@ -190,7 +161,7 @@ pub fn bank_source(room: &[u64], size: u64, bank: u64, m: u64) -> Shown
 }
 
 // BRBTGT of register m in a bank of a room, or a refusal.
-pub fn bank_target(room: &[u64], size: u64, bank: u64, m: u64) -> Shown
+pub fn bank_target(room: &[u64], size: u64, bank: u64, m: u64) -> Answer
     ensures { λ r. ⌜ r ≡ bankShows (λ x. x .target) size bank m (now (room .entry)) ⌝ }
 {
     let value = target_viewed(room, size, bank_start(bank), m);

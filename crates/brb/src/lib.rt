@@ -1,11 +1,15 @@
 // The functions that a C host calls, on numbers and lent memory (document 01, "Forms for each place"). include/brb.h says
 // what each number means. Everything is decided below: this crate holds exports only.
 ghost use mathlib.Core.Path.{_≡_};
-ghost use Rattle.count.specs.Count.{encoded, decoded};
+ghost use Rattle.answer.specs.Answer.{returned};
+ghost use Rattle.count.specs.Count.{encoded, decoded, answerOf};
 ghost use Rattle.bank.specs.Bank.{bankShows};
-ghost use Rattle.recording.specs.Recording.{writingOf, writtenOperation};
-ghost use Rattle.brb.specs.Face.{leaves, stepLeaves, decodeAnswer, shownAnswer};
-ghost use Rattle.brb.specs.Recordings.{readLeft, readLeaves, writeAnswer, recordedLeft, recordedLeaves};
+ghost use Rattle.recording.specs.Recording.{numbers, writingOf, writtenOperation};
+ghost use Rattle.recorder.specs.Left.{leaves};
+ghost use Rattle.brb.specs.Face.{stepLeaves};
+ghost use Rattle.brb.specs.Recordings.{readLeft, readLeaves, returnedAt, recordedLeaves};
+use answer::Answer;
+use answer::Returned;
 use bank::bank_inf;
 use bank::bank_source;
 use bank::bank_target;
@@ -19,13 +23,6 @@ use recording::write_operation;
 use state::Loaded;
 use state::load;
 
-// An answer as document 01's numbers.
-#[repr(C)]
-pub struct BrbAnswer {
-    pub number: u64,
-    pub value: u64,
-}
-
 // One operation.
 #[no_mangle]
 pub extern "C" fn brb_step(
@@ -37,14 +34,11 @@ pub extern "C" fn brb_step(
     b: u64,
     c: u64,
     d: u64,
-) -> BrbAnswer
+) -> Returned
     ensures { λ r. ⌜ leaves r (now (state .exit)) (now (room .exit)) ≡ stepLeaves (now (state .entry)) code cycles a b c d (now (room .entry)) ⌝ }
 {
     let answer = lent_step(state, room, operation_of(code, a, b, c, d), cycles);
-    BrbAnswer {
-        number: answer.number(),
-        value: answer.value(),
-    }
+    answer.returned()
 }
 
 // A read: code 5.
@@ -54,7 +48,7 @@ pub extern "C" fn brb_read(
     room: &mut [u64],
     cycles: u64,
     register: u64,
-) -> BrbAnswer
+) -> Returned
     ensures { λ r. ⌜ leaves r (now (state .exit)) (now (room .exit)) ≡ stepLeaves (now (state .entry)) 5 cycles register 0 0 0 (now (room .entry)) ⌝ }
 {
     brb_step(state, room, 5, cycles, register, 0, 0, 0)
@@ -70,50 +64,38 @@ pub extern "C" fn brb_count_encode(n: u64) -> u64
 
 // What a CC field says.
 #[no_mangle]
-pub extern "C" fn brb_count_decode(cc: u64) -> BrbAnswer
-    ensures { λ r. ⌜ r ≡ decodeAnswer (decoded cc) ⌝ }
+pub extern "C" fn brb_count_decode(cc: u64) -> Returned
+    ensures { λ r. ⌜ r ≡ returned (answerOf (decoded cc)) ⌝ }
 {
     let decoded = count::decode(cc);
-    BrbAnswer {
-        number: decoded.number(),
-        value: decoded.value(),
-    }
+    decoded.answer().returned()
 }
 
 // BRBINF of register m, as one bank of a room shows it.
 #[no_mangle]
-pub extern "C" fn brb_bank_inf(room: &[u64], size: u64, bank: u64, m: u64) -> BrbAnswer
-    ensures { λ r. ⌜ r ≡ shownAnswer (bankShows (λ x. x .inf) size bank m (now (room .entry))) ⌝ }
+pub extern "C" fn brb_bank_inf(room: &[u64], size: u64, bank: u64, m: u64) -> Returned
+    ensures { λ r. ⌜ r ≡ returned (bankShows (λ x. x .inf) size bank m (now (room .entry))) ⌝ }
 {
     let shown = bank_inf(room, size, bank, m);
-    BrbAnswer {
-        number: shown.number(),
-        value: shown.value(),
-    }
+    shown.returned()
 }
 
 // BRBSRC of register m, as one bank of a room shows it.
 #[no_mangle]
-pub extern "C" fn brb_bank_source(room: &[u64], size: u64, bank: u64, m: u64) -> BrbAnswer
-    ensures { λ r. ⌜ r ≡ shownAnswer (bankShows (λ x. x .source) size bank m (now (room .entry))) ⌝ }
+pub extern "C" fn brb_bank_source(room: &[u64], size: u64, bank: u64, m: u64) -> Returned
+    ensures { λ r. ⌜ r ≡ returned (bankShows (λ x. x .source) size bank m (now (room .entry))) ⌝ }
 {
     let shown = bank_source(room, size, bank, m);
-    BrbAnswer {
-        number: shown.number(),
-        value: shown.value(),
-    }
+    shown.returned()
 }
 
 // BRBTGT of register m, as one bank of a room shows it.
 #[no_mangle]
-pub extern "C" fn brb_bank_target(room: &[u64], size: u64, bank: u64, m: u64) -> BrbAnswer
-    ensures { λ r. ⌜ r ≡ shownAnswer (bankShows (λ x. x .target) size bank m (now (room .entry))) ⌝ }
+pub extern "C" fn brb_bank_target(room: &[u64], size: u64, bank: u64, m: u64) -> Returned
+    ensures { λ r. ⌜ r ≡ returned (bankShows (λ x. x .target) size bank m (now (room .entry))) ⌝ }
 {
     let shown = bank_target(room, size, bank, m);
-    BrbAnswer {
-        number: shown.number(),
-        value: shown.value(),
-    }
+    shown.returned()
 }
 
 // What a recorded step answers, and where reading goes on.
@@ -124,33 +106,31 @@ pub struct BrbRecorded {
     pub next: u64,
 }
 
+fn returned_at(answer: Answer, next: usize) -> BrbRecorded
+    ensures { λ r. ⌜ r ≡ returnedAt answer next ⌝ }
+{
+    BrbRecorded {
+        number: answer.number(),
+        value: answer.value(),
+        next: next as u64,
+    }
+}
+
 // The operation at a place of a recording, as six numbers in a lent place.
 #[no_mangle]
-pub extern "C" fn brb_recording_read(bytes: &[u8], at: usize, place: &mut [u64]) -> BrbAnswer
+pub extern "C" fn brb_recording_read(bytes: &[u8], at: usize, place: &mut [u64]) -> Returned
     ensures { λ r. ⌜ readLeft r (now (place .exit)) ≡ readLeaves (now (bytes .entry)) at (now (place .entry)) ⌝ }
 {
     if place.len() < 6 {
-        return BrbAnswer {
-            number: 6,
-            value: 0,
-        };
+        return Answer::Refused(6).returned();
     }
     match operation_at(bytes, at) {
         Reading::Operation(x, next) => {
             store_numbers(place, x);
-            BrbAnswer {
-                number: 0,
-                value: next as u64,
-            }
+            Answer::Value(next as u64).returned()
         }
-        Reading::Malformed(_) => BrbAnswer {
-            number: 1,
-            value: 0,
-        },
-        Reading::UnknownCode(_) => BrbAnswer {
-            number: 2,
-            value: 0,
-        },
+        Reading::Malformed(_) => Answer::Refused(1).returned(),
+        Reading::UnknownCode(_) => Answer::Refused(2).returned(),
     }
 }
 
@@ -165,23 +145,12 @@ pub extern "C" fn brb_recording_write(
     b: u64,
     c: u64,
     d: u64,
-) -> BrbAnswer
-    ensures { λ r. ⌜ r ≡ writeAnswer (writingOf (record { code = code; cycles = cycles; a = a; b = b; c = c; d = d }) at (now (bytes .entry))) ⌝ }
-    ensures { λ _. ⌜ now (bytes .exit) ≡ writtenOperation (record { code = code; cycles = cycles; a = a; b = b; c = c; d = d }) at (now (bytes .entry)) ⌝ }
+) -> Returned
+    ensures { λ r. ⌜ r ≡ returned (writingOf (numbers code cycles a b c d) at (now (bytes .entry))) ⌝ }
+    ensures { λ _. ⌜ now (bytes .exit) ≡ writtenOperation (numbers code cycles a b c d) at (now (bytes .entry)) ⌝ }
 {
-    let x = Numbers {
-        code,
-        cycles,
-        a,
-        b,
-        c,
-        d,
-    };
-    let wrote = write_operation(bytes, at, x);
-    BrbAnswer {
-        number: wrote.number(),
-        value: wrote.value(),
-    }
+    let wrote = write_operation(bytes, at, Numbers::new(code, cycles, a, b, c, d));
+    wrote.returned()
 }
 
 // One operation of a recording. The state is loaded and judged first, so that after 7 nothing was read.
@@ -192,35 +161,19 @@ pub extern "C" fn brb_step_recorded(
     bytes: &[u8],
     at: usize,
 ) -> BrbRecorded
-    ensures { λ r. ⌜ recordedLeft r (now (state .exit)) (now (room .exit)) ≡ recordedLeaves (now (state .entry)) (now (room .entry)) (now (bytes .entry)) at ⌝ }
+    ensures { λ r. ⌜ leaves r (now (state .exit)) (now (room .exit)) ≡ recordedLeaves (now (state .entry)) (now (room .entry)) (now (bytes .entry)) at ⌝ }
 {
     let loaded = load(&state[..]);
     let Loaded::Held(_) = loaded else {
-        return BrbRecorded {
-            number: 7,
-            value: 0,
-            next: at as u64,
-        };
+        return returned_at(Answer::Refused(7), at);
     };
     match operation_at(bytes, at) {
         Reading::Operation(x, next) => {
             let o = operation_of(x.code, x.a, x.b, x.c, x.d);
             let answer = lent_step(state, room, o, x.cycles);
-            BrbRecorded {
-                number: answer.number(),
-                value: answer.value(),
-                next: next as u64,
-            }
+            returned_at(answer, next)
         }
-        Reading::Malformed(place) => BrbRecorded {
-            number: 1,
-            value: 0,
-            next: place as u64,
-        },
-        Reading::UnknownCode(place) => BrbRecorded {
-            number: 2,
-            value: 0,
-            next: place as u64,
-        },
+        Reading::Malformed(place) => returned_at(Answer::Refused(1), place),
+        Reading::UnknownCode(place) => returned_at(Answer::Refused(2), place),
     }
 }

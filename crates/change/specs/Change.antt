@@ -1,32 +1,23 @@
--- What an accepted operation changes: level, P and registers, the running count, and the records.
+-- What an accepted operation does to the running count and to the records.
 use Prim.Native.Nat.{ℕ}
 use mathlib.Core.Bool.{Bool, cond, _&&_, _||_, not}
+use Rattle.bits.specs.Bits.{isSet}
 use Rattle.state.specs.declared.State.{State}
 use Rattle.state.specs.declared.Running.{Running}
-use Rattle.state.specs.Named.{counting, PAUSED, runningAfterReset, afterReset, atLevel, withPlatform}
+use Rattle.state.specs.Named.{counting, PAUSED, runningAfterReset}
 use Rattle.running.specs.Ran.{ran}
 use Rattle.room.specs.declared.Effect.{Effect}
 use Rattle.room.specs.declared.Effect.the-variants.{Keep, Push, Clear, Start}
 use Rattle.region.specs.Region.{prohibited}
-use Rattle.filter.specs.Filter.{returnType, chosen}
-use Rattle.event.specs.Event.{EXCEPTION, ERTN, controlled, made}
-use Rattle.access.specs.Access.{writeOutcome, iallOutcome, isPerformed, meant, registerWritten}
+use Rattle.filter.specs.Filter.{chosen}
+use Rattle.event.specs.declared.Event.{Event}
+use Rattle.event.specs.Event.{controlled, made}
+use Rattle.answer.specs.Answer.{isDone}
+use Rattle.access.specs.Access.{iallOutcome}
 use Rattle.change.specs.declared.Asked.{Asked}
 use Rattle.change.specs.declared.Asked.the-variants.{Happens, Plain}
 use Rattle.operation.specs.declared.Operation.{Operation}
 use Rattle.operation.specs.declared.Operation.the-variants.{Reset, Branch, Exception, Return, Platform, Read, Write, Iall, Unknown}
-
--- The state once the operation has set level, P or registers; the running count is not yet touched, but by a reset.
-unfoldable pub changed : State → Operation → State
-changed s (Reset size v1p1) = afterReset size v1p1
-changed s (Branch kind m source target) = s
-changed s (Exception kind level source target) = atLevel level s
-changed s (Return level m source target) = atLevel level s
-changed s (Platform p) = withPlatform p s
-changed s (Read r) = s
-changed s (Write r value) = cond (isPerformed (writeOutcome s r)) (registerWritten s (meant s r) value) s
-changed s Iall = s
-changed s Unknown = s
 
 -- Document 01, "Cycles": the occasions on which the next count becomes unknown, from the state before an accepted operation
 -- and the state that it has changed. "an accepted operation, this one included, began at a prohibited level (house); a
@@ -39,23 +30,26 @@ occasion before after =
 unfoldable pub passed : State → State → ℕ → Running
 passed before after cycles = ran (before .running) (occasion before after) cycles
 
--- What an operation asks of the records: an event, with what its filter or control says of it, or an effect. An event starts
--- at the current level; an exception is controlled by the level that it enters, a return by the level that it leaves.
+-- "An event starts at the current level."
+abbrev pub starting : State → ℕ → ℕ → ℕ → ℕ → ℕ → Event
+starting s kind m entered source target =
+    record { kind = kind; mispredicted = m; left = s .level; entered = entered; source = source; target = target }
+
+-- What an operation asks of the records: an event, with what its filter or control says of it, or an effect. A branch stays at
+-- its level. An exception is controlled by the level that it enters, a return by the level that it leaves: "bit 23 for
+-- exceptions, bit 22 for returns". "A return has type 7."
 unfoldable pub askedOf : State → Operation → Asked
 askedOf s (Reset size v1p1) = Plain (Start size)
 askedOf s (Branch kind m source target) =
-    Happens (chosen (s .brbfcr) (record { code = kind }))
-    (record { kind = kind; mispredicted = m; left = s .level; entered = s .level; source = source; target = target })
+    Happens (chosen (s .brbfcr) (record { code = kind })) (starting s kind m (s .level) source target)
 askedOf s (Exception kind level source target) =
-    Happens (controlled s level (EXCEPTION (s .brbcr1)) (EXCEPTION (s .brbcr2)))
-    (record { kind = kind; mispredicted = 0; left = s .level; entered = level; source = source; target = target })
+    Happens (controlled s level (isSet 23 (s .brbcr1)) (isSet 23 (s .brbcr2))) (starting s kind 0 level source target)
 askedOf s (Return level m source target) =
-    Happens (controlled s (s .level) (ERTN (s .brbcr1)) (ERTN (s .brbcr2)))
-    (record { kind = returnType; mispredicted = m; left = s .level; entered = level; source = source; target = target })
+    Happens (controlled s (s .level) (isSet 22 (s .brbcr1)) (isSet 22 (s .brbcr2))) (starting s 7 m level source target)
 askedOf s (Platform p) = Plain Keep
 askedOf s (Read register) = Plain Keep
 askedOf s (Write register value) = Plain Keep
-askedOf s Iall = Plain (cond (isPerformed (iallOutcome s)) Clear Keep)
+askedOf s Iall = Plain (cond (isDone (iallOutcome s)) Clear Keep)
 askedOf s Unknown = Plain Keep
 
 -- What comes of it, where the running count is r with the operation's cycles in it.

@@ -2,10 +2,11 @@
 // and "Cycles").
 ghost use mathlib.Core.Path.{_≡_};
 ghost use mathlib.Core.Bool.{cond};
-ghost use Rattle.access.specs.Access.{writeOutcome, iallOutcome, isPerformed, meant, registerWritten};
-ghost use Rattle.change.specs.Change.{changed, occasion, passed, askedOf, effectOf, runningAfter};
+ghost use Rattle.answer.specs.Answer.{isDone};
+ghost use Rattle.access.specs.Access.{writeOutcome, iallOutcome, meant, registerWritten};
+ghost use Rattle.operation.specs.Changed.{changed};
+ghost use Rattle.change.specs.Change.{occasion, passed, starting, askedOf, effectOf, runningAfter};
 use access::iall_outcome;
-use access::is_performed;
 use access::meant;
 use access::register_written;
 use access::write_outcome;
@@ -36,9 +37,9 @@ pub enum Asked {
 
 // The state after a write, performed or not.
 fn written(s: State, r: u64, value: u64) -> State
-    ensures { λ x. ⌜ x ≡ cond (isPerformed (writeOutcome s r)) (registerWritten s (meant s r) value) s ⌝ }
+    ensures { λ x. ⌜ x ≡ cond (isDone (writeOutcome s r)) (registerWritten s (meant s r) value) s ⌝ }
 {
-    if is_performed(write_outcome(s, r)) {
+    if write_outcome(s, r).is_done() {
         register_written(s, meant(s, r), value)
     } else {
         s
@@ -82,68 +83,59 @@ pub fn passed(s: State, after: State, cycles: u64) -> Running
     running::passed(r, occasion(s, after), cycles)
 }
 
+// "An event starts at the current level."
+fn starting(s: State, kind: u64, mispredicted: u64, entered: u64, source: u64, target: u64) -> Event
+    ensures { λ e. ⌜ e ≡ starting s kind mispredicted entered source target ⌝ }
+{
+    Event {
+        kind,
+        mispredicted,
+        left: s.level,
+        entered,
+        source,
+        target,
+    }
+}
+
 fn branch_asked(s: State, kind: u64, mispredicted: u64, source: u64, target: u64) -> Asked
     ensures { λ x. ⌜ x ≡ askedOf s (Operation.Branch kind mispredicted source target) ⌝ }
 {
     let t = BranchType { code: kind };
-    let e = Event {
-        kind,
-        mispredicted,
-        left: s.level,
-        entered: s.level,
-        source,
-        target,
-    };
-    Asked::Happens(t.chosen(s.brbfcr), e)
+    let chosen = t.chosen(s.brbfcr);
+    Asked::Happens(
+        chosen,
+        starting(s, kind, mispredicted, s.level, source, target),
+    )
 }
 
 // An exception is controlled by the level that it enters.
 fn exception_asked(s: State, kind: u64, level: u64, source: u64, target: u64) -> Asked
     ensures { λ x. ⌜ x ≡ askedOf s (Operation.Exception kind level source target) ⌝ }
 {
-    let e = Event {
-        kind,
-        mispredicted: 0,
-        left: s.level,
-        entered: level,
-        source,
-        target,
-    };
-    let wanted = controlled(
-        s,
-        level,
-        s.brbcr1 / EXCEPTION % 2 == 1,
-        s.brbcr2 / EXCEPTION % 2 == 1,
-    );
-    Asked::Happens(wanted, e)
+    let el1 = s.brbcr1 / EXCEPTION % 2 == 1;
+    let el2 = s.brbcr2 / EXCEPTION % 2 == 1;
+    let wanted = controlled(s, level, el1, el2);
+    Asked::Happens(wanted, starting(s, kind, 0, level, source, target))
 }
 
 // A return is controlled by the level that it leaves.
 fn return_asked(s: State, level: u64, mispredicted: u64, source: u64, target: u64) -> Asked
     ensures { λ x. ⌜ x ≡ askedOf s (Operation.Return level mispredicted source target) ⌝ }
 {
-    let e = Event {
-        kind: RETURN,
-        mispredicted,
-        left: s.level,
-        entered: level,
-        source,
-        target,
-    };
-    let wanted = controlled(
-        s,
-        s.level,
-        s.brbcr1 / ERTN % 2 == 1,
-        s.brbcr2 / ERTN % 2 == 1,
-    );
-    Asked::Happens(wanted, e)
+    let el1 = s.brbcr1 / ERTN % 2 == 1;
+    let el2 = s.brbcr2 / ERTN % 2 == 1;
+    let wanted = controlled(s, s.level, el1, el2);
+    Asked::Happens(
+        wanted,
+        starting(s, RETURN, mispredicted, level, source, target),
+    )
 }
 
 // BRB IALL clears the records where it is performed.
 fn iall_effect(s: State) -> Effect
-    ensures { λ x. ⌜ x ≡ cond (isPerformed (iallOutcome s)) Effect.Clear Effect.Keep ⌝ }
+    ensures { λ x. ⌜ x ≡ cond (isDone (iallOutcome s)) Effect.Clear Effect.Keep ⌝ }
 {
-    if is_performed(iall_outcome(s)) {
+    if iall_outcome(s).is_done() {
         Effect::Clear
     } else {
         Effect::Keep

@@ -2,6 +2,7 @@
 use Prim.Native.Nat.{ℕ, zero, suc, _+_, _*_, _-_, _^_, _/_, _%_}
 use mathlib.Core.Bool.{cond}
 use lib.Dec.{leb, ltb, eqb}
+use Rattle.answer.specs.declared.Answer.{Answer}
 use Rattle.count.specs.declared.Decoded.{Decoded}
 use Rattle.count.specs.declared.Decoded.the-variants.{Known, Exceeded, Refused}
 
@@ -38,14 +39,8 @@ countOf e m = cond (eqb e 0) m ((256 + m) * 2 ^ (e - 1))
 unfoldable pub decoded : ℕ → Decoded
 decoded cc = cond (eqb cc exceeded) Exceeded (cond (leb (cc / 256) 12) (Known (countOf (cc / 256) (cc % 256))) Refused)
 
--- The number of each answer: 0, or refusal 4.
-abbrev pub numberOf : Decoded → ℕ
-numberOf (Known n) = 0
-numberOf Exceeded = 0
-numberOf Refused = 4
-
--- The value of each answer. Exceeded is 1,048,576, which no known count is.
-abbrev pub valueOf : Decoded → ℕ
-valueOf (Known n) = n
-valueOf Exceeded = 1048576
-valueOf Refused = 0
+-- Its answer: the count, or refusal 4. Exceeded is 1,048,576, which no known count is.
+abbrev pub answerOf : Decoded → Answer
+answerOf (Known n) = Answer.Value n
+answerOf Exceeded = Answer.Value 1048576
+answerOf Refused = Answer.Refused 4

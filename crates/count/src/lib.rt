@@ -1,6 +1,7 @@
 // The encoding of a cycle count in BRBINF's CC field (document 01, "Cycles"; BRBINF<n>_EL1.CC).
 ghost use mathlib.Core.Path.{_≡_};
-ghost use Rattle.count.specs.Count.{encoded, decoded, numberOf, valueOf};
+ghost use Rattle.count.specs.Count.{encoded, decoded, answerOf};
+use answer::Answer;
 
 // What a CC value says of the count.
 pub enum Decoded {
@@ -54,25 +55,14 @@ pub fn decode(cc: u64) -> Decoded
 }
 
 impl Decoded {
-    // The answer's number: 0, or refusal 4 (document 01, "Cycles").
-    pub fn number(self) -> u64
-        ensures { λ r. ⌜ r ≡ numberOf self ⌝ }
+    // As document 01 answers: a value, or refusal 4. A count that exceeded the counter has 1,048,576, which no known count is.
+    pub fn answer(self) -> Answer
+        ensures { λ r. ⌜ r ≡ answerOf self ⌝ }
     {
         match self {
-            Decoded::Known(_) => 0,
-            Decoded::Exceeded => 0,
-            Decoded::Refused => 4,
-        }
-    }
-
-    // The answer's value: the count. One that exceeded the counter has 1,048,576, which no known count is.
-    pub fn value(self) -> u64
-        ensures { λ r. ⌜ r ≡ valueOf self ⌝ }
-    {
-        match self {
-            Decoded::Known(n) => n,
-            Decoded::Exceeded => 1_048_576,
-            Decoded::Refused => 0,
+            Decoded::Known(n) => Answer::Value(n),
+            Decoded::Exceeded => Answer::Value(1_048_576),
+            Decoded::Refused => Answer::Refused(4),
         }
     }
 }

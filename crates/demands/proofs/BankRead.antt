@@ -12,7 +12,7 @@ use Rattle.state.specs.Named.{BANK, sizes}
 use Rattle.room.specs.declared.Record.{Record}
 use Rattle.room.specs.Room.{records, needed}
 use Rattle.access.specs.Access.{registerValue}
-use Rattle.bank.specs.declared.Shown.the-variants.{Value}
+use Rattle.answer.specs.declared.Answer.the-variants.{Value}
 use Rattle.bank.specs.Bank.{bankRefusal, bankRecord, bankShows}
 use Rattle.demands.proofs.Demand2.{read-shows}
 

@@ -2,27 +2,27 @@
 -- number."
 use Prim.Native.Nat.{ℕ, _≤_}
 use mathlib.Core.Path.{_≡_, refl}
-use mathlib.Core.Bool.{Bool, true, false}
+use mathlib.Core.Bool.{Bool, true, false, cond, _||_}
 use mathlib.Core.List.{List, [], _∷_}
 use native.Mathlib.Omega.{arith}
 use native.Mathlib.Decide.{ℕ-discrete}
+use lib.Dec.{eqb}
 use lib.ListN.{length}
 use Rattle.state.specs.declared.State.{State}
 use Rattle.state.specs.declared.Loaded.{Loaded}
 use Rattle.state.specs.declared.Loaded.the-variants.{Held, Unsound}
 use Rattle.state.specs.Words.{loaded}
 use Rattle.state.proofs.Laws.{held, kept}
-use Rattle.access.specs.declared.Outcome.{Outcome}
-use Rattle.access.specs.declared.Outcome.the-variants.{Performed, Undefined, Trap2, Trap3}
-use Rattle.access.specs.Access.{readOutcome, writeOutcome, iallOutcome}
+use Rattle.answer.specs.declared.Answer.{Answer}
+use Rattle.answer.specs.declared.Answer.the-variants.{Done, Value, Undefined, Trap2, Trap3}
+use Rattle.answer.specs.Answer.{returned, isDone}
+use Rattle.access.specs.Access.{trapped2, trapped3, outcome, readOutcome, writeOutcome, iallOutcome}
 use Rattle.operation.specs.declared.Operation.{Operation}
 use Rattle.operation.specs.declared.Operation.the-variants.{Reset, Branch, Exception, Return, Platform, Read, Write, Iall, Unknown}
 use Rattle.operation.specs.Operation.{operationOf}
 use Rattle.operation.specs.Refusal.{firstThat, table, refusalOf}
-use Rattle.recorder.specs.declared.Answer.{Answer}
-use Rattle.recorder.specs.Step.{numberOf, answered, answerOf, accepted, acceptedWith, refused, stepOf}
+use Rattle.recorder.specs.Step.{answerOf, accepted, refused, stepOf}
 use Rattle.recorder.proofs.Laws.{accepted-step, refused-step}
-use Rattle.recorder.specs.Lent.{lentStep}
 use Rattle.recording.specs.declared.Reading.{Reading}
 use Rattle.recording.specs.declared.Reading.the-variants.{Malformed, UnknownCode}
 use Rattle.recording.specs.Recording.{operationAt}
@@ -55,22 +55,33 @@ data Accepted : ℕ → Type 0 where
   trap2 : Accepted 102
   trap3 : Accepted 103
 
-ended : (o : Outcome) (a : Answer) → Accepted (numberOf a) → Accepted (numberOf (answered o a))
-ended Performed a h = h
-ended Undefined a h = undefined
-ended Trap2 a h = trap2
-ended Trap3 a h = trap3
+ended : (undefined trap2 trap3 : Bool) → Accepted (returned (cond undefined Undefined (cond trap2 Trap2 (cond trap3 Trap3 Done))) .number)
+ended true b c = undefined
+ended false true c = trap2
+ended false false true = trap3
+ended false false false = done
 
-accepted-number : (s : State) (o : Operation) (room : List ℕ) → Accepted (numberOf (answerOf s o room))
-unfolding answerOf
+access-number : (s : State) (u n : Bool) → Accepted (returned (outcome s u n) .number)
+unfolding outcome
+access-number s u n = ended (eqb (s .level) 0 || u) (trapped2 s n) (trapped3 s)
+
+read-number : (a : Answer) (v : ℕ) → Accepted (returned a .number) → Accepted (returned (cond (isDone a) (Value v) a) .number)
+read-number a v h = go (isDone a)
+  where
+    go : (t : Bool) → Accepted (returned (cond t (Value v) a) .number)
+    go true = done
+    go false = h
+
+accepted-number : (s : State) (o : Operation) (room : List ℕ) → Accepted (returned (answerOf s o room) .number)
+unfolding answerOf readOutcome writeOutcome iallOutcome
 accepted-number s (Reset size v1p1) room = done
 accepted-number s (Branch kind m source target) room = done
 accepted-number s (Exception kind level source target) room = done
 accepted-number s (Return level m source target) room = done
 accepted-number s (Platform p) room = done
-accepted-number s (Read r) room = ended (readOutcome s r) _ done
-accepted-number s (Write r value) room = ended (writeOutcome s r) _ done
-accepted-number s Iall room = ended (iallOutcome s) _ done
+accepted-number s (Read r) room = read-number (readOutcome s r) _ (access-number s _ _)
+accepted-number s (Write r value) room = access-number s _ _
+accepted-number s Iall room = access-number s _ _
 accepted-number s Unknown room = done
 
 no-refusal : {n : ℕ} → Accepted n → 1 ≤ n → n ≤ 7 → ⊥
@@ -80,9 +91,9 @@ no-refusal trap2 l u = omega arith
 no-refusal trap3 l u = omega arith
 
 -- A step whose answer's number is a refusal's is the refusal: state and room are as they were.
-pub refusal-answered : (s : State) (o : Operation) (cycles : ℕ) (room : List ℕ) → 1 ≤ numberOf (stepOf s o cycles room .answer)
-    → numberOf (stepOf s o cycles room .answer) ≤ 7 → stepOf s o cycles room ≡ refused (refusalOf s o (length room)) s room
-unfolding accepted acceptedWith
+pub refusal-answered : (s : State) (o : Operation) (cycles : ℕ) (room : List ℕ) → 1 ≤ returned (stepOf s o cycles room .answer) .number
+    → returned (stepOf s o cycles room .answer) .number ≤ 7 → stepOf s o cycles room ≡ refused (refusalOf s o (length room)) s room
+unfolding accepted
 refusal-answered s o cycles room l u = go (ℕ-discrete (refusalOf s o (length room)) 0)
   where
     go : Dec (refusalOf s o (length room) ≡ 0) → stepOf s o cycles room ≡ refused (refusalOf s o (length room)) s room
@@ -97,7 +108,7 @@ pub refused-changes-nothing : (words room : List ℕ) (code cycles a b c d : ℕ
     → 1 ≤ stepLeaves words code cycles a b c d room .answer .number
     → stepLeaves words code cycles a b c d room .answer .number ≤ 7
     → stepLeaves words code cycles a b c d room ≡ unchanged words room (stepLeaves words code cycles a b c d room)
-unfolding stepLeaves lentStep
+unfolding stepLeaves
 refused-changes-nothing words room code cycles a b c d l u = go (loaded words) refl
   where
     go : (found : Loaded) → loaded words ≡ found

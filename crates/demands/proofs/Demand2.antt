@@ -1,7 +1,7 @@
 -- Demand 2, on one operation: what an accepted operation does to the list of records, what a new record holds, and what a
 -- read shows.
 use Prim.Native.Nat.{ℕ, _+_, _*_, _^_, _/_, _%_, _≤_, _<_}
-use mathlib.Core.Path.{_≡_, refl, _∙_}
+use mathlib.Core.Path.{_≡_, refl, ap, _∙_}
 use mathlib.Core.Bool.{Bool, true, false, cond, _&&_, not}
 use mathlib.Core.List.{List}
 use native.Mathlib.Omega.{arith}
@@ -18,18 +18,21 @@ use Rattle.state.specs.Named.{PAUSED, predictionShown, BANK}
 use Rattle.room.specs.declared.Record.{Record}
 use Rattle.room.specs.declared.Effect.{Effect}
 use Rattle.room.specs.declared.Effect.the-variants.{Keep, Push, Clear, Start}
-use Rattle.room.specs.Room.{zeroRecord, records, numbered, needed, roomAfter, sizeAfterEffect}
-use Rattle.room.proofs.Laws.{length-records, records-pushed, records-cleared}
+use Rattle.room.specs.Room.{zeroRecord, records, numbered, needed, roomAfter}
+use Rattle.room.proofs.Laws.{sizeAfterEffect, length-records, records-pushed, records-cleared}
 use Rattle.region.specs.Region.{prohibited}
 use Rattle.event.specs.declared.Event.{Event}
 use Rattle.event.specs.Event.{valid, countUnknown, MPRED, packed, BRBINF, recordOf, made}
-use Rattle.access.specs.Access.{isPerformed, iallOutcome, shownRecord, shownNumber, registerValue}
+use Rattle.answer.specs.Answer.{isDone}
+use Rattle.access.specs.Access.{iallOutcome, shownRecord, shownNumber, registerValue}
 use Rattle.operation.specs.declared.Operation.{Operation}
 use Rattle.operation.specs.declared.Operation.the-variants.{Reset, Branch, Exception, Return, Platform, Read, Write, Iall, Unknown}
-use Rattle.operation.specs.Refusal.{notReset, sizeAfter, refusalOf}
+use Rattle.operation.specs.Refusal.{notReset, refusalOf}
+use Rattle.operation.specs.Changed.{changed}
+use Rattle.operation.proofs.Size.{write-size}
 use Rattle.operation.proofs.Laws.{accepts, sized}
-use Rattle.change.specs.Change.{changed, passed, askedOf, effectOf}
-use Rattle.recorder.specs.Step.{accepted, acceptedWith, stepOf}
+use Rattle.change.specs.Change.{passed, askedOf, effectOf}
+use Rattle.recorder.specs.Step.{accepted, stepOf}
 use Rattle.recorder.proofs.Laws.{accepted-step, refused-step}
 use Rattle.demands.specs.After.{recordsAfter, IsEvent, branch, exception, return, entered}
 
@@ -53,7 +56,7 @@ effect-inside s r return source target = made-none s r _ _ source target
 
 pub inside-prohibited : (s : State) {o : Operation} (cycles : ℕ) (room : List ℕ) (e : IsEvent o) → prohibited s (s .level) ≡ true
     → prohibited s (entered s e) ≡ true → stepOf s o cycles room .room ≡ room
-unfolding accepted acceptedWith roomAfter
+unfolding accepted roomAfter
 inside-prohibited s {o} cycles room e source target = go (ℕ-discrete (refusalOf s o (length room)) 0)
   where
     go : Dec (refusalOf s o (length room) ≡ 0) → stepOf s o cycles room .room ≡ room
@@ -145,16 +148,16 @@ cleared-or-kept : (size : ℕ) (t : Bool) → size ≡ sizeAfterEffect size (con
 cleared-or-kept size true = refl
 cleared-or-kept size false = refl
 
-pub size-after : (s : State) (o : Operation) (r : Running) → sizeAfter s o ≡ sizeAfterEffect (s .size) (effectOf s o r)
-unfolding effectOf askedOf
+pub size-after : (s : State) (o : Operation) (r : Running) → changed s o .size ≡ sizeAfterEffect (s .size) (effectOf s o r)
+unfolding effectOf askedOf changed
 size-after s (Reset size v1p1) r = refl
 size-after s (Branch kind m source target) r = keeps-size (s .size) s r _ _
 size-after s (Exception kind level source target) r = keeps-size (s .size) s r _ _
 size-after s (Return level m source target) r = keeps-size (s .size) s r _ _
 size-after s (Platform p) r = refl
 size-after s (Read register) r = refl
-size-after s (Write register value) r = refl
-size-after s Iall r = cleared-or-kept (s .size) (isPerformed (iallOutcome s))
+size-after s (Write register value) r = write-size s register value
+size-after s Iall r = cleared-or-kept (s .size) (isDone (iallOutcome s))
 size-after s Unknown r = refl
 
 -- Only an event makes a record, and it needs a reset before it.
@@ -167,7 +170,7 @@ pushed-by s (Return level m source target) r new h = return
 pushed-by s (Platform p) r new h = never (cc)
 pushed-by s (Read register) r new h = never (cc)
 pushed-by s (Write register value) r new h = never (cc)
-pushed-by s Iall r new h = go (isPerformed (iallOutcome s)) h
+pushed-by s Iall r new h = go (isDone (iallOutcome s)) h
   where
     go : (t : Bool) → cond t Clear Keep ≡ Push new → IsEvent Iall
     go true p = never (cc)
@@ -193,15 +196,16 @@ effect-records size (Start n) room one enough = records-cleared n room enough
 -- front and the oldest lost, or the list unchanged, or all zero. Which of them, and every field of the new record, is
 -- decided by the definition `effectOf`, at the running count that the operations have brought.
 pub newest : (s : State) (o : Operation) (cycles : ℕ) (room : List ℕ) → refusalOf s o (length room) ≡ 0
-    → records (sizeAfter s o) (stepOf s o cycles room .room)
+    → records (changed s o .size) (stepOf s o cycles room .room)
     ≡ recordsAfter (s .size) (effectOf s o (passed s (changed s o) cycles)) (records (s .size) room)
-unfolding accepted acceptedWith
+unfolding accepted
 newest s o cycles room h =
     let a = accepts s o (length room) h in
     let r = passed s (changed s o) cycles in
     let size = size-after s o r in
-    rw (accepted-step s o cycles room h, size)
-    (effect-records (s .size) (effectOf s o r) room (λ new p. event-sized s (pushed-by s o r new p) (a .was-reset)) (rw size at (a .room-enough)))
+    rw (accepted-step s o cycles room h)
+    (ap (λ (n : ℕ). records n (roomAfter (s .size) (effectOf s o r) room)) size
+    ∙ effect-records (s .size) (effectOf s o r) room (λ new p. event-sized s (pushed-by s o r new p) (a .was-reset)) (rw size at (a .room-enough)))
 
 -- ---- read-shows: what a record register shows is number m + 32 × BANK of the list
 

@@ -2,7 +2,7 @@
 use Prim.Native.Nat.{ℕ, _+_}
 use mathlib.Core.Bool.{Bool, cond, _&&_, _||_, not}
 use lib.Dec.{eqb}
-use Rattle.bits.specs.Bits.{isSet, put}
+use Rattle.bits.specs.Bits.{put}
 use Rattle.count.specs.Count.{encoded}
 use Rattle.state.specs.declared.State.{State}
 use Rattle.state.specs.declared.Running.{Running}
@@ -13,15 +13,9 @@ use Rattle.room.specs.declared.Effect.{Effect}
 use Rattle.room.specs.declared.Effect.the-variants.{Keep, Push}
 use Rattle.event.specs.declared.Event.{Event}
 
--- Bits 23 and 22 of a control register: "bit 23 for exceptions, bit 22 for returns".
-abbrev pub EXCEPTION : ℕ → Bool
-EXCEPTION brbcr = isSet 23 brbcr
-
-abbrev pub ERTN : ℕ → Bool
-ERTN brbcr = isSet 22 brbcr
-
 -- The control of exceptions and returns: "level 1, BRBCR_EL1; level 2, BRBCR_EL2; level 3, recorded exactly when v1p1 and
--- P bit 6 are 1." The level is the target of an exception and the level that a return leaves. R_KRJQC, R_ZSHDL.
+-- P bit 6 are 1." The level is the target of an exception and the level that a return leaves; el1 and el2 are the control's
+-- bits of BRBCR_EL1 and BRBCR_EL2. R_KRJQC, R_ZSHDL.
 unfoldable pub controlled : State → ℕ → Bool → Bool → Bool
 controlled s level el1 el2 = cond (eqb level 3) (EL3Recorded s) (cond (eqb level 2) el2 el1)
 
@@ -56,11 +50,7 @@ BRBINF s r e =
 -- The record of an event: 0 where the address of its prohibited side would stand. R_YGGSC.
 unfoldable pub recordOf : State → Running → Event → Record
 recordOf s r e =
-    record {
-      inf = BRBINF s r e;
-      source = cond (prohibited s (e .left)) 0 (e .source);
-      target = cond (prohibited s (e .entered)) 0 (e .target);
-    }
+    record { inf = BRBINF s r e; source = cond (prohibited s (e .left)) 0 (e .source); target = cond (prohibited s (e .entered)) 0 (e .target) }
 
 -- What an event does to the records, where `wanted` says what its filter or control does.
 -- "None while BRBFCR_EL1 bit 7 (PAUSED) is 1."

@@ -6,46 +6,23 @@ use lib.Dec.{eqb}
 use Rattle.bits.specs.Bits.{bit}
 use Rattle.filter.specs.declared.BranchType.{BranchType}
 
--- The codes of the six branch types, BRBINF<n>_EL1.TYPE.
-abbrev pub DIRECT : ℕ
-DIRECT = 0
-
-abbrev pub INDIRECT : ℕ
-INDIRECT = 1
-
-abbrev pub DIRCALL : ℕ
-DIRCALL = 2
-
-abbrev pub INDCALL : ℕ
-INDCALL = 3
-
-abbrev pub RTN : ℕ
-RTN = 5
-
-abbrev pub CONDDIR : ℕ
-CONDDIR = 8
-
+-- The codes of the six branch types, BRBINF<n>_EL1.TYPE: DIRECT, INDIRECT, DIRCALL, INDCALL, RTN, CONDDIR.
 abbrev pub branchTypes : List ℕ
-branchTypes = DIRECT ∷ INDIRECT ∷ DIRCALL ∷ INDCALL ∷ RTN ∷ CONDDIR ∷ []
+branchTypes = 0 ∷ 1 ∷ 2 ∷ 3 ∷ 5 ∷ 8 ∷ []
 
 -- "Exception types: 0x22, 23, 24, 26, 27, 2A, 2B, 2C, 2E, 2F."
 abbrev pub exceptionTypes : List ℕ
 exceptionTypes = 0x22 ∷ 0x23 ∷ 0x24 ∷ 0x26 ∷ 0x27 ∷ 0x2A ∷ 0x2B ∷ 0x2C ∷ 0x2E ∷ 0x2F ∷ []
 
--- "A return has type 7."
-abbrev pub returnType : ℕ
-returnType = 7
-
 -- "Bits: type 0 DIRECT 17, 1 INDIRECT 18, 5 RTN 19, 3 INDCALL 20, 2 DIRCALL 21, 8 CONDDIR 22."
 -- R_FJYVT, R_KKLDV, R_CKNBH, R_VBGTZ, R_RBDXK, R_BBNSZ. No other type is accepted (refusal 4).
 unfoldable pub filterBit : BranchType → ℕ
 filterBit t =
-    cond (eqb (t .code) DIRECT) 17
-    (cond (eqb (t .code) INDIRECT) 18
-    (cond (eqb (t .code) RTN) 19
-    (cond (eqb (t .code) INDCALL) 20
-    (cond (eqb (t .code) DIRCALL) 21
-    22))))
+    cond (eqb (t .code) 0) 17
+    (cond (eqb (t .code) 1) 18
+    (cond (eqb (t .code) 5) 19
+    (cond (eqb (t .code) 3) 20
+    (cond (eqb (t .code) 2) 21 22))))
 
 -- EnI, BRBFCR_EL1 bit 16.
 abbrev pub EnI : ℕ → ℕ

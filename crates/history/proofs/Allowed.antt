@@ -1,6 +1,5 @@
 -- What acceptance says of an operation's effect: the room is long enough, and a record is made only where there is a size.
 use Prim.Native.Nat.{ℕ, _≤_}
-use mathlib.Core.Path.{_≡_, refl}
 use mathlib.Core.Bool.{Bool, true, false, cond, _&&_, not}
 use lib.Dec.{eqb}
 use Rattle.state.specs.declared.State.{State}
@@ -12,12 +11,15 @@ use Rattle.room.specs.declared.Effect.the-variants.{Keep, Push, Clear, Start}
 use Rattle.room.specs.Room.{needed}
 use Rattle.event.specs.declared.Event.{Event}
 use Rattle.event.specs.Event.{valid, recordOf, made}
-use Rattle.access.specs.Access.{writeOutcome, iallOutcome, isPerformed, meant, registerWritten}
+use Rattle.answer.specs.Answer.{isDone}
+use Rattle.access.specs.Access.{iallOutcome}
 use Rattle.operation.specs.declared.Operation.{Operation}
 use Rattle.operation.specs.declared.Operation.the-variants.{Reset, Branch, Exception, Return, Platform, Read, Write, Iall, Unknown}
 use Rattle.operation.specs.Refusal.{notReset}
 use Rattle.operation.proofs.Laws.{Accepts, sized}
-use Rattle.change.specs.Change.{changed, askedOf, effectOf}
+use Rattle.operation.specs.Changed.{changed}
+use Rattle.operation.proofs.Size.{write-size}
+use Rattle.change.specs.Change.{askedOf, effectOf}
 use Rattle.history.proofs.Notes.{Takes, takes}
 
 -- What an effect needs, and the size after it, where the size before it, the room's length and the running count are given.
@@ -40,11 +42,6 @@ module _ (s : State) (r : Running) (room : ℕ) where
   can-make wanted e one fits =
       one-of (wanted && not (PAUSED s) && not (eqb (valid s e) 0)) (pushes {new = recordOf s r e} one fits (takes s r e)) keeps
 
-  size-written : (t : Bool) (k value : ℕ) → cond t (registerWritten s k value) s .size ≡ s .size
-  unfolding registerWritten
-  size-written true k value = refl
-  size-written false k value = refl
-
   pub allowed : (o : Operation) → Accepts s o room → Can (effectOf s o r) (changed s o .size)
   unfolding effectOf askedOf changed notReset
   allowed (Reset size v1p1) a = starts (a .room-enough)
@@ -53,6 +50,6 @@ module _ (s : State) (r : Running) (room : ℕ) where
   allowed (Return level m source target) a = can-make _ _ (sized (s .size) (a .was-reset)) (a .room-enough)
   allowed (Platform p) a = keeps
   allowed (Read k) a = keeps
-  allowed (Write k value) a = rw (size-written (isPerformed (writeOutcome s k)) (meant s k) value) keeps
-  allowed Iall a = one-of (isPerformed (iallOutcome s)) (clears (a .room-enough)) keeps
+  allowed (Write k value) a = rw (write-size s k value) keeps
+  allowed Iall a = one-of (isDone (iallOutcome s)) (clears (a .room-enough)) keeps
   allowed Unknown a = keeps

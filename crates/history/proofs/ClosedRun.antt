@@ -16,8 +16,9 @@ use Rattle.region.specs.Region.{enabled, prohibited}
 use Rattle.event.specs.Event.{controlled, valid, countUnknown, MPRED, BRBINF, recordOf, made}
 use Rattle.access.specs.Access.{permitted, trapped2, outcome, readOutcome, writeOutcome, iallOutcome, registerWritten}
 use Rattle.operation.specs.Refusal.{unknownCode, notReset, outsideList, notPermitted, roomTooShort, refusalOf}
-use Rattle.change.specs.Change.{changed, occasion, passed, askedOf, effectOf}
-use Rattle.recorder.specs.Step.{answerOf, acceptedWith, accepted, stepOf}
+use Rattle.operation.specs.Changed.{changed}
+use Rattle.change.specs.Change.{occasion, passed, askedOf, effectOf}
+use Rattle.recorder.specs.Step.{answerOf, accepted, stepOf}
 use Rattle.history.specs.History.{stepped, run, notedStep, notedRun}
 
 abbrev operation : ℕ → ℕ → ℕ → ℕ → ℕ → ℕ → Timed
@@ -49,5 +50,5 @@ seen = shown (run start session)
 
 -- Records 0 to 2 are such a stretch: the counts 512 (of 513 cycles) and 300, over 813 cycles. Record 3 was cleared.
 pub closed-run : _≡_ {A = Bool × Bool × ℕ × ℕ} (stretch seen 0 2, stretch seen 0 3, S seen 0 2, T (notesOf start session) 0 2) (true, false, 812, 813)
-unfolding bitLength exponent mantissa encoded countOf decoded closed sound records numbered pushed cleared roomAfter enabled prohibited filterBit chosen controlled valid countUnknown MPRED BRBINF recordOf made permitted trapped2 outcome readOutcome writeOutcome iallOutcome registerWritten operationOf unknownCode notReset outsideList notPermitted roomTooShort refusalOf changed occasion passed askedOf effectOf answerOf acceptedWith accepted stepOf stepped run notedStep notedRun stretch S
+unfolding bitLength exponent mantissa encoded countOf decoded closed sound records numbered pushed cleared roomAfter enabled prohibited filterBit chosen controlled valid countUnknown MPRED BRBINF recordOf made permitted trapped2 outcome readOutcome writeOutcome iallOutcome registerWritten operationOf unknownCode notReset outsideList notPermitted roomTooShort refusalOf changed occasion passed askedOf effectOf answerOf accepted stepOf stepped run notedStep notedRun stretch S
 closed-run = refl

@@ -15,8 +15,9 @@ use Rattle.room.specs.declared.Effect.{Effect}
 use Rattle.room.specs.Room.{needed, records, numbered, roomAfter}
 use Rattle.room.proofs.Laws.{records-pushed, records-cleared}
 use Rattle.operation.specs.declared.Operation.the-variants.{Reset}
-use Rattle.change.specs.Change.{changed, passed, askedOf, effectOf, runningAfter}
-use Rattle.recorder.specs.Step.{acceptedWith, accepted, stepOf}
+use Rattle.operation.specs.Changed.{changed}
+use Rattle.change.specs.Change.{passed, askedOf, effectOf, runningAfter}
+use Rattle.recorder.specs.Step.{accepted, stepOf}
 use Rattle.history.specs.History.{Timed, Machine, stepped, run, shown, Note, Noted, isAccepted, clockAfter, notesAfter, notedStep, notedRun, history, notesOf, FromReset, reset, unset, note, isValid, isCounted, count, stretch, S, T, Near}
 use Rattle.bits.proofs.Each.{each}
 use Rattle.history.proofs.Notes.{Timely, waited, began, made, Held, zero-invalid, held-cleared, held-pushed}
@@ -41,7 +42,7 @@ after-effect {size} {notes = notes} room r (clears fits) t h = (t, rw (records-c
 after-effect room r (starts {n = n} fits) t h = (began, rw (records-cleared n room fits) (held-cleared n []))
 
 good-step : (x : Noted) (t : Timed) → Good x → Good (notedStep x t)
-unfolding notedStep stepped stepOf accepted acceptedWith passed
+unfolding notedStep stepped stepOf accepted passed
 good-step x t g = go (isAccepted (x .machine) t) refl
   where
     s : State
@@ -89,7 +90,7 @@ module _ (x : Noted) (g : Good x) where
 -- ---- sequences from a reset
 
 good : {m : Machine} {list : List Timed} → FromReset m list → Good (history m list)
-unfolding notedRun notedStep stepped stepOf accepted acceptedWith effectOf askedOf changed roomAfter records
+unfolding notedRun notedStep stepped stepOf accepted effectOf askedOf changed roomAfter records
 good (unset {list = list}) = good-run _ list (record { timely = began; held = held-cleared 0 [] })
 good (reset {m = m} {size = size} {v1p1 = v1p1} {list = list} e) =
     let room : needed size ≤ length (m .room) = accepts-if (m .state) (Reset size v1p1) (length (m .room)) e .room-enough in

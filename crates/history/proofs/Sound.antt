@@ -6,7 +6,7 @@ use mathlib.Core.Path.{_≡_, refl, ap, _∙_}
 use mathlib.Core.Bool.{Bool, true, false, cond, not}
 use mathlib.Core.Logic.{_≢_, _⊎_, inl, inr}
 use mathlib.Core.List.{List, [], _∷_}
-use lib.Bits.{and-step}
+use lib.Bits.{bitAnd, and-step}
 use lib.Dec.{eqb, leb, ltb}
 use lib.ListN.{length}
 use borrow.Author.Tests.{le-leb, le-ltb, ltb-true, ltb-false, eq-eqb, eqb-true}
@@ -14,30 +14,33 @@ use Rattle.bits.specs.Bits.{within, oneOf}
 use Rattle.state.specs.declared.State.{State}
 use Rattle.state.specs.declared.Running.{Running}
 use Rattle.state.specs.Named.{sizes, atLevel, withPlatform, withRunning}
-use Rattle.state.specs.Sound.{platformMask, controlMask, filterMask, kept, cap, closed, sound}
+use Rattle.state.specs.Sound.{platformMask, controlMask, filterMask, cap, closed, sound}
 use Rattle.room.specs.declared.Effect.{Effect}
 use Rattle.room.specs.declared.Effect.the-variants.{Keep, Push, Clear, Start}
-use Rattle.access.specs.Access.{writeOutcome, isPerformed, meant, registerWritten}
+use Rattle.answer.specs.Answer.{isDone}
+use Rattle.access.specs.Access.{writeOutcome, meant, registerWritten}
 use Rattle.operation.specs.declared.Operation.{Operation}
 use Rattle.operation.specs.declared.Operation.the-variants.{Reset, Branch, Exception, Return, Platform, Read, Write, Iall, Unknown}
 use Rattle.room.specs.Room.{needed}
-use Rattle.operation.specs.Refusal.{unknownCode, notReset, outsideList, notPermitted, sizeAfter, roomTooShort, firstThat, refusalOf}
+use Rattle.operation.specs.Refusal.{unknownCode, notReset, outsideList, notPermitted, roomTooShort, firstThat, refusalOf}
 use Rattle.bits.proofs.Cases.{either, never}
-use Rattle.change.specs.Change.{changed, occasion, passed, effectOf, runningAfter}
-use Rattle.recorder.specs.Step.{acceptedWith, accepted, stepOf}
+use Rattle.operation.specs.Changed.{changed}
+use Rattle.operation.proofs.Size.{write-size}
+use Rattle.change.specs.Change.{occasion, passed, effectOf, runningAfter}
+use Rattle.recorder.specs.Step.{accepted, stepOf}
 use Rattle.history.specs.History.{Timed, Machine, isAccepted, stepped, run, FromReset, reset, unset}
 use Rattle.bits.proofs.Each.{each}
 use Rattle.operation.proofs.Laws.{Accepts, accepts-if}
 
 -- What a mask keeps, it keeps again.
-kept-again : (n value mask : ℕ) → value ≤ n → kept mask (kept mask value) ≡ kept mask value
+kept-again : (n value mask : ℕ) → value ≤ n → bitAnd (bitAnd value mask) mask ≡ bitAnd value mask
 kept-again zero value mask h = let none : value ≡ 0 = omega arith in rw none
 kept-again (suc n) value mask h =
-    let low : kept mask value / 2 ≡ kept (mask / 2) (value / 2) = omega (arith, and-step value mask) in
-    let again : kept (mask / 2) (kept mask value / 2) ≡ kept (mask / 2) (value / 2) =
-    ap (kept (mask / 2)) low ∙ kept-again n (value / 2) (mask / 2) (omega arith)
+    let low : bitAnd value mask / 2 ≡ bitAnd (value / 2) (mask / 2) = omega (arith, and-step value mask) in
+    let again : bitAnd (bitAnd value mask / 2) (mask / 2) ≡ bitAnd (value / 2) (mask / 2) =
+    ap (λ (x : ℕ). bitAnd x (mask / 2)) low ∙ kept-again n (value / 2) (mask / 2) (omega arith)
     in
-    omega (arith, again, and-step value mask, and-step (kept mask value) mask)
+    omega (arith, again, and-step value mask, and-step (bitAnd value mask) mask)
 
 -- The lines of `sound` but for the running count, and those of the running count.
 record Set (s : State) : Type 0 where
@@ -69,7 +72,7 @@ entered : (s : State) (level : ℕ) → ltb 3 level ≡ false → closed s level
 unfolding closed
 entered s level low permitted t = let high : leb level 3 ≡ true = le-leb level 3 (ltb-false 3 level low) in search
 
-within-kept : (f : Bool) (mask value old : ℕ) → within mask old ≡ true → within mask (cond f (kept mask value) old) ≡ true
+within-kept : (f : Bool) (mask value old : ℕ) → within mask old ≡ true → within mask (cond f (bitAnd value mask) old) ≡ true
 within-kept true mask value old h = eq-eqb _ _ (kept-again value value mask (le-refl value))
 within-kept false mask value old h = h
 
@@ -96,7 +99,7 @@ set-after {s} (Platform p) a t =
     let top : closed (withPlatform p s) (s .level) ≡ false = rw (eqb-true (s .level) 3 (search each)) in
     search
 set-after (Read r) a t = t
-set-after {s} (Write r value) a t = written s (isPerformed (writeOutcome s r)) (meant s r) value t
+set-after {s} (Write r value) a t = written s (isDone (writeOutcome s r)) (meant s r) value t
 set-after Iall a t = t
 set-after Unknown a t = t
 
@@ -115,7 +118,7 @@ counts-after Clear r c = c
 counts-after (Start size) r c = record { count = refl; unknown = refl }
 
 pub sound-kept : (m : Machine) (t : Timed) → sound (m .state) ≡ true → sound (stepped m t .state) ≡ true
-unfolding stepped stepOf accepted acceptedWith
+unfolding stepped stepOf accepted
 sound-kept m t h = go (isAccepted m t) refl
   where
     go : (b : Bool) → isAccepted m t ≡ b → sound (stepped m t .state) ≡ true
@@ -172,15 +175,15 @@ largest size h =
     go (inr a) (inr b) (inr c) (inr d) (inl e) = is 0 (omega arith) e
     go (inr a) (inr b) (inr c) (inr d) (inr e) = never (cc (rw (a, b, c, d, e) at h))
 
-size-bound : (s : State) (o : Operation) → sound s ≡ true → outsideList o ≡ false → sizeAfter s o ≤ 64
-unfolding outsideList
+size-bound : (s : State) (o : Operation) → sound s ≡ true → outsideList o ≡ false → changed s o .size ≤ 64
+unfolding outsideList changed
 size-bound s (Reset size v1p1) h listed = largest size (sized size (search each))
 size-bound s (Branch kind m source target) h listed = largest (s .size) (lines s h .0 .size)
 size-bound s (Exception kind level source target) h listed = largest (s .size) (lines s h .0 .size)
 size-bound s (Return level m source target) h listed = largest (s .size) (lines s h .0 .size)
 size-bound s (Platform p) h listed = largest (s .size) (lines s h .0 .size)
 size-bound s (Read r) h listed = largest (s .size) (lines s h .0 .size)
-size-bound s (Write r value) h listed = largest (s .size) (lines s h .0 .size)
+size-bound s (Write r value) h listed = rw (write-size s r value) (largest (s .size) (lines s h .0 .size))
 size-bound s Iall h listed = largest (s .size) (lines s h .0 .size)
 size-bound s Unknown h listed = largest (s .size) (lines s h .0 .size)
 
@@ -197,5 +200,5 @@ not-six false false false false false f h p = let none = h refl in omega (arith,
 pub never-short : (s : State) (o : Operation) → sound s ≡ true → refusalOf s o 192 ≢ 6
 unfolding refusalOf roomTooShort
 never-short s o h =
-    not-six (not (sound s)) (unknownCode o) (notReset s o) (outsideList o) (notPermitted s o) (ltb 192 (needed (sizeAfter s o)))
-    (λ listed. le-ltb 192 (needed (sizeAfter s o)) (omega (arith, size-bound s o h listed)))
+    not-six (not (sound s)) (unknownCode o) (notReset s o) (outsideList o) (notPermitted s o) (ltb 192 (needed (changed s o .size)))
+    (λ listed. le-ltb 192 (needed (changed s o .size)) (omega (arith, size-bound s o h listed)))

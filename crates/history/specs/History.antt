@@ -7,10 +7,11 @@ use mathlib.Core.List.{List, [], _∷_}
 use mathlib.Core.Path.{_≡_}
 use lib.Dec.{eqb}
 use lib.ListN.{length, getD}
+use Rattle.answer.specs.Answer.{returned}
 use Rattle.bits.specs.Bits.{part}
 use Rattle.count.specs.declared.Decoded.{Decoded}
 use Rattle.count.specs.declared.Decoded.the-variants.{Known, Exceeded, Refused}
-use Rattle.count.specs.Count.{decoded, valueOf}
+use Rattle.count.specs.Count.{decoded, answerOf}
 use Rattle.state.specs.declared.State.{State}
 use Rattle.state.specs.Named.{fresh}
 use Rattle.room.specs.declared.Record.{Record}
@@ -20,7 +21,8 @@ use Rattle.room.specs.Room.{zeroRecord, records, numbered}
 use Rattle.operation.specs.declared.Operation.{Operation}
 use Rattle.operation.specs.declared.Operation.the-variants.{Reset}
 use Rattle.operation.specs.Refusal.{refusalOf}
-use Rattle.change.specs.Change.{changed, passed, effectOf}
+use Rattle.operation.specs.Changed.{changed}
+use Rattle.change.specs.Change.{passed, effectOf}
 use Rattle.recorder.specs.Step.{stepOf}
 
 -- ---- the plain run
@@ -148,7 +150,7 @@ isCounted r = eqb (CCU r) 0 && isKnown (decoded (CC r))
 
 -- That count, decoded.
 abbrev pub count : Record → ℕ
-count r = valueOf (decoded (CC r))
+count r = returned (answerOf (decoded (CC r))) .value
 
 -- The records i to i + n of a list are all valid, and all but the oldest, which is i + n, are counted.
 unfoldable pub stretch : List Record → ℕ → ℕ → Bool

@@ -6,15 +6,15 @@ use native.Mathlib.Omega.{arith}
 use borrow.Author.Tests.{lt-leb, le-leb}
 use lib.ListN.{length, length-append}
 use Rattle.bits.proofs.Cases.{below-or-not}
-use Rattle.text.proofs.Laws.{length-hexadecimal, length-decimal}
-use Rattle.recorder.specs.declared.Answer.{Answer}
-use Rattle.recorder.specs.declared.Answer.the-variants.{Done, Value, Undefined, Trap2, Trap3, Refused}
+use Rattle.text.proofs.Laws.{length-digits, length-decimal}
+use Rattle.answer.specs.declared.Answer.{Answer}
+use Rattle.answer.specs.declared.Answer.the-variants.{Done, Value, Undefined, Trap2, Trap3, Refused}
 use Rattle.line.specs.Line.{lineOf, longestLine, lineCount}
 
 pub length-line : (answer : Answer) → length (lineOf answer) ≤ longestLine
 unfolding lineOf
 length-line Done = omega arith
-length-line (Value v) = simp length-append (omega (arith, length-hexadecimal 16 v))
+length-line (Value v) = simp length-append (omega (arith, length-digits 16 16 v))
 length-line Undefined = omega arith
 length-line Trap2 = omega arith
 length-line Trap3 = omega arith

@@ -6,17 +6,17 @@ use mathlib.Core.List.{List, [], _++_}
 use lib.Dec.{leb}
 use lib.ListN.{length, replicate}
 use Rattle.number.specs.Number.{written}
-use Rattle.text.specs.Text.{bytesOfText, decimal, hexadecimal}
+use Rattle.text.specs.Text.{bytesOfText, digits, decimal}
 use Rattle.state.specs.declared.State.{State}
 use Rattle.state.specs.Named.{fresh}
-use Rattle.recorder.specs.declared.Answer.{Answer}
-use Rattle.recorder.specs.declared.Answer.the-variants.{Done, Value, Undefined, Trap2, Trap3, Refused}
+use Rattle.answer.specs.declared.Answer.{Answer}
+use Rattle.answer.specs.declared.Answer.the-variants.{Done, Value, Undefined, Trap2, Trap3, Refused}
 use Rattle.recording.specs.RecordedStep.{recordedStep, stopsReading}
 
 -- The line of an answer, its end included, or no byte.
 unfoldable pub lineOf : Answer → List ℕ
 lineOf Done = []
-lineOf (Value v) = hexadecimal 16 v ++ bytesOfText "\n"
+lineOf (Value v) = digits 16 16 v ++ bytesOfText "\n"
 lineOf Undefined = bytesOfText "undefined\n"
 lineOf Trap2 = bytesOfText "trap2\n"
 lineOf Trap3 = bytesOfText "trap3\n"
@@ -34,24 +34,19 @@ lineWritten out at answer = cond (leb (at + longestLine) (length out)) (written 
 unfoldable pub lineCount : List ℕ → ℕ → Answer → ℕ
 lineCount out at answer = cond (leb (at + longestLine) (length out)) (length (lineOf answer)) 0
 
--- "The replay program starts from a fresh state with room for 64 records."
-abbrev pub replayRoom : List ℕ
-replayRoom = replicate 192 0
-
 -- What a replay prints from a state, a room and a place on, of at most k operations: "Operations one after another to the
 -- end of input." At the end no operation begins, and there is no line.
 unfoldable pub replayFrom : ℕ → State → List ℕ → List ℕ → ℕ → List ℕ
 replayFrom zero s room bytes at = []
 replayFrom (suc k) s room bytes at =
+    let r = recordedStep s room bytes at in
+    let rest = replayFrom k (r .result .state) (r .result .room) bytes (r .next) in
     elim (leb (length bytes) at) [
       | true ↦ []
-      | false ↦ lineOf (recordedStep s room bytes at .result .answer)
-          ++ elim (stopsReading (recordedStep s room bytes at .result .answer)) [
-            | true ↦ []
-            | false ↦ replayFrom k (recordedStep s room bytes at .result .state) (recordedStep s room bytes at .result .room) bytes (recordedStep s room bytes at .next)
-          ]
+      | false ↦ lineOf (r .result .answer) ++ elim (stopsReading (r .result .answer)) [ true ↦ [] | false ↦ rest ]
     ]
 
--- What the replay of a recording prints. Each operation has a byte at least, so that its length bounds the operations.
+-- What the replay of a recording prints. "The replay program starts from a fresh state with room for 64 records." Each operation
+-- has a byte at least, so that the recording's length bounds them.
 unfoldable pub replayOf : List ℕ → List ℕ
-replayOf bytes = replayFrom (length bytes) fresh replayRoom bytes 0
+replayOf bytes = replayFrom (length bytes) fresh (replicate 192 0) bytes 0

@@ -14,17 +14,11 @@ pub record Turned : Type 0 where
 abbrev pub turned : Turn → List ℕ → List ℕ → Turned
 turned turn room out = record { turn = turn; room = room; out = out }
 
-abbrev pub turnAfter : Recorded → List ℕ → ℕ → Turned
-turnAfter r out used =
-    turned
-    (record {
-      state = r .result .state;
-      next = r .next;
-      used = used + lineCount out used (r .result .answer);
-      stops = stopsReading (r .result .answer);
-    })
-    (r .result .room)
-    (lineWritten out used (r .result .answer))
-
 unfoldable pub turnOf : State → List ℕ → List ℕ → ℕ → List ℕ → ℕ → Turned
-turnOf s room bytes at out used = turnAfter (recordedStep s room bytes at) out used
+turnOf s room bytes at out used =
+    let r = recordedStep s room bytes at in
+    let answer = r .result .answer in
+    turned
+    (record { state = r .result .state; next = r .next; used = used + lineCount out used answer; stops = stopsReading answer })
+    (r .result .room)
+    (lineWritten out used answer)

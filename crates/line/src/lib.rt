@@ -5,7 +5,7 @@ ghost use lib.ListN.{length};
 ghost use Rattle.number.specs.Number.{written};
 ghost use Rattle.line.specs.Turn.{turned, turnOf};
 ghost use Rattle.line.specs.Line.{lineOf, longestLine, lineWritten, lineCount};
-use recorder::Answer;
+use answer::Answer;
 use recording::recorded_step;
 use recording::stops_reading;
 use state::State;

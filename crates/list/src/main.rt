@@ -33,27 +33,15 @@ struct Place {
 }
 
 // Nothing more is read or listed.
-fn stopped(p: Place) -> Place {
-    Place {
-        start: p.start,
-        end: p.end,
-        before: p.before,
-        ended: p.ended,
-        waiting: p.waiting,
-        going: false,
-    }
+fn stopped(mut p: Place) -> Place {
+    p.going = false;
+    p
 }
 
 // The same, with nothing that waits.
-fn emptied(p: Place) -> Place {
-    Place {
-        start: p.start,
-        end: p.end,
-        before: p.before,
-        ended: p.ended,
-        waiting: 0,
-        going: false,
-    }
+fn emptied(mut p: Place) -> Place {
+    p.waiting = 0;
+    stopped(p)
 }
 
 // Reads once, behind the first bytes, and answers how many came, 0 at the input's end and below 0 where it cannot be read.

@@ -7,7 +7,7 @@ use Rattle.count.specs.declared.Decoded.{Decoded}
 use Rattle.count.specs.declared.Decoded.the-variants.{Known}
 use Rattle.recording.specs.declared.Numbers.{Numbers}
 use Rattle.filter.specs.Filter.{branchTypes, filterBit, chosen}
-use Rattle.text.specs.Text.{bytesOfText, digits, decimalCount, decimal, hexadecimal}
+use Rattle.text.specs.Text.{bytesOfText, digits, decimalCount, decimal}
 use Rattle.count.specs.Count.{bitLength, exponent, mantissa, encoded, countOf, decoded}
 use Rattle.number.specs.Number.{numberIn, numberAt, bytesIn, bytesOf}
 use Rattle.state.specs.Sound.{closed, sound}
@@ -17,16 +17,13 @@ use Rattle.event.specs.Event.{controlled, valid, countUnknown, MPRED, BRBINF, r
 use Rattle.access.specs.Access.{permitted, trapped2, outcome, readOutcome, writeOutcome, iallOutcome, shownRecord, shownNumber, registerValue, registerWritten}
 use Rattle.operation.specs.Operation.{operationOf}
 use Rattle.operation.specs.Refusal.{unknownCode, notReset, outsideList, notPermitted, roomTooShort, refusalOf}
-use Rattle.change.specs.Change.{changed, occasion, passed, askedOf, effectOf}
-use Rattle.recorder.specs.Step.{answerOf, acceptedWith, accepted, stepOf}
-use Rattle.recording.specs.Recording.{fieldCount, numbersAt, operationAt, bytesOfAll, operationBytes}
+use Rattle.operation.specs.Changed.{changed}
+use Rattle.change.specs.Change.{occasion, passed, askedOf, effectOf}
+use Rattle.recorder.specs.Step.{answerOf, accepted, stepOf}
+use Rattle.recording.specs.Recording.{numbers, fieldCount, numbersAt, operationAt, bytesOfAll, operationBytes}
 use Rattle.recording.specs.Operations.{recordingBytes}
 use Rattle.recording.specs.RecordedStep.{recordedStep}
 use Rattle.line.specs.Line.{lineOf, replayFrom, replayOf}
-
--- An operation as document 01 writes it: code, cycles, then fields.
-abbrev pub operation : ℕ → ℕ → ℕ → ℕ → ℕ → ℕ → Numbers
-operation code cycles a b c d = record { code = code; cycles = cycles; a = a; b = b; c = c; d = d }
 
 -- A marked case: what is put in, and what must come out.
 pub data Case : Type 0 where
@@ -53,18 +50,18 @@ computed (Prints session text) = Prints session (replayOf (recordingBytes sessio
 -- Session S1.
 abbrev pub S1 : List Numbers
 S1 =
-    operation 0 0 8 0 0 0
-    ∷ operation 4 0 49 0 0 0
-    ∷ operation 6 0 1 10 0 0
-    ∷ operation 6 0 2 8 0 0
-    ∷ operation 6 0 3 65536 0 0
-    ∷ operation 3 0 1 0 128 4096
-    ∷ operation 1 300 0 0 4100 4112
-    ∷ operation 1 300 8 1 4112 4096
-    ∷ operation 5 0 32 0 0 0
-    ∷ operation 5 0 33 0 0 0
-    ∷ operation 5 0 64 0 0 0
-    ∷ operation 5 0 2 0 0 0
+    numbers 0 0 8 0 0 0
+    ∷ numbers 4 0 49 0 0 0
+    ∷ numbers 6 0 1 10 0 0
+    ∷ numbers 6 0 2 8 0 0
+    ∷ numbers 6 0 3 65536 0 0
+    ∷ numbers 3 0 1 0 128 4096
+    ∷ numbers 1 300 0 0 4100 4112
+    ∷ numbers 1 300 8 1 4112 4096
+    ∷ numbers 5 0 32 0 0 0
+    ∷ numbers 5 0 33 0 0 0
+    ∷ numbers 5 0 64 0 0 0
+    ∷ numbers 5 0 2 0 0 0
     ∷ []
 
 -- P1 to P12.
@@ -85,5 +82,5 @@ cases =
     ∷ []
 
 pub marked : map computed cases ≡ cases
-unfolding bitLength exponent mantissa encoded countOf decoded numberIn numberAt bytesIn bytesOf closed sound records numbered pushed cleared roomAfter enabled prohibited filterBit chosen controlled valid countUnknown MPRED BRBINF recordOf made permitted trapped2 outcome readOutcome writeOutcome iallOutcome shownRecord shownNumber registerValue registerWritten operationOf unknownCode notReset outsideList notPermitted roomTooShort refusalOf changed occasion passed askedOf effectOf answerOf acceptedWith accepted stepOf fieldCount numbersAt operationAt bytesOfAll operationBytes recordingBytes recordedStep digits decimalCount decimal hexadecimal lineOf replayFrom replayOf
+unfolding bitLength exponent mantissa encoded countOf decoded numberIn numberAt bytesIn bytesOf closed sound records numbered pushed cleared roomAfter enabled prohibited filterBit chosen controlled valid countUnknown MPRED BRBINF recordOf made permitted trapped2 outcome readOutcome writeOutcome iallOutcome shownRecord shownNumber registerValue registerWritten operationOf unknownCode notReset outsideList notPermitted roomTooShort refusalOf changed occasion passed askedOf effectOf answerOf accepted stepOf fieldCount numbersAt operationAt bytesOfAll operationBytes recordingBytes recordedStep digits decimalCount decimal lineOf replayFrom replayOf
 marked = refl

@@ -1,28 +1,13 @@
 -- What the proofs here cite.
-use Prim.Native.Nat.{ℕ, zero, suc, _<_}
+use Prim.Native.Nat.{ℕ}
 use mathlib.Core.Path.{_≡_, refl}
 use mathlib.Core.List.{List, [], _∷_, map}
-use native.Mathlib.Omega.{arith}
 use borrow.Author.Tests.{lt-ltb, le-ltb}
-use Rattle.recording.specs.Recording.{fieldCount}
 use Rattle.text.specs.Text.{digit}
 use Rattle.notation.specs.Text.{digitValue}
 
 -- The way through a chain of tests.
 pub ruleset tests = (lt-ltb, le-ltb)
-
--- Codes above 7 have no field.
-pub no-fields : (code : ℕ) → 7 < code → 0 ≡ fieldCount code
-unfolding fieldCount
-no-fields zero h = absurd (omega arith)
-no-fields (suc zero) h = absurd (omega arith)
-no-fields (suc (suc zero)) h = absurd (omega arith)
-no-fields (suc (suc (suc zero))) h = absurd (omega arith)
-no-fields (suc (suc (suc (suc zero)))) h = absurd (omega arith)
-no-fields (suc (suc (suc (suc (suc zero))))) h = absurd (omega arith)
-no-fields (suc (suc (suc (suc (suc (suc zero)))))) h = absurd (omega arith)
-no-fields (suc (suc (suc (suc (suc (suc (suc zero))))))) h = absurd (omega arith)
-no-fields (suc (suc (suc (suc (suc (suc (suc (suc code)))))))) h = refl
 
 abbrev pub sixteen : List ℕ
 sixteen = 0 ∷ 1 ∷ 2 ∷ 3 ∷ 4 ∷ 5 ∷ 6 ∷ 7 ∷ 8 ∷ 9 ∷ 10 ∷ 11 ∷ 12 ∷ 13 ∷ 14 ∷ 15 ∷ []

@@ -1,9 +1,9 @@
 // Recordings as text (`pack`), byte for byte: a state by value, and a step that takes a byte and answers the state after it.
 ghost use mathlib.Core.Path.{_≡_};
 ghost use Prim.Native.Nat.{_≤_};
-ghost use Rattle.recording.specs.Recording.{fieldCount};
 ghost use Rattle.notation.specs.Text.{digitValue, appended};
 use recording::Numbers;
+use recording::field_count;
 
 // Where in the text the reading stands.
 pub enum Mode {
@@ -107,19 +107,6 @@ fn hexadecimal_appended(value: u64, digit: u64) -> Appended
         return Appended::Over;
     }
     Appended::Value(value * 16 + digit)
-}
-
-// How many fields each code has (document 01, "Operations").
-const FIELDS: [u64; 8] = [2, 4, 4, 4, 1, 1, 2, 0];
-
-// 0 for a code above 7, which has none.
-pub fn fields_of(code: u64) -> u64
-    ensures { λ r. ⌜ (r ≡ fieldCount code) × (r ≤ 4) ⌝ }
-{
-    if 7 < code {
-        return 0;
-    }
-    FIELDS[code as usize]
 }
 
 // One more, and no wrap: no text is so long that this stands still.
@@ -275,7 +262,7 @@ fn operation_step(p: Parser, line: u64) -> Step {
     if 7 < numbers.code {
         return Step::Wrong(Problem::Code(numbers.code), p.line);
     }
-    if p.count != fields_of(numbers.code) + 2 {
+    if p.count != field_count(numbers.code) + 2 {
         return Step::Wrong(Problem::Count(numbers.code, p.count), p.line);
     }
     Step::Operation(numbers, at_line(line))

@@ -1,7 +1,7 @@
 -- Document 01, "Recordings": one number. "Each number is in groups of seven bits, low group first, top bit set when
 -- more follow; at most ten bytes, below 2^64, shortest form only. 300 is AC 02. 80 00 is malformed."
 use Prim.Native.Nat.{ℕ, zero, suc, _+_, _*_, _-_, _^_, _/_, _%_}
-use mathlib.Core.Bool.{Bool, cond, _||_}
+use mathlib.Core.Bool.{cond, _||_}
 use mathlib.Core.List.{List, [], _∷_, _++_}
 use lib.Dec.{leb, ltb, eqb}
 use lib.ListN.{length, take, drop}
@@ -38,6 +38,10 @@ bytesOf n = bytesIn 10 n
 abbrev pub written : List ℕ → ℕ → List ℕ → List ℕ
 written out at bytes = take at out ++ (bytes ++ drop (at + length bytes) out)
 
--- Lent bytes have room at a place for the bytes of n.
-abbrev pub fits : List ℕ → ℕ → ℕ → Bool
-fits out at n = leb (at + length (bytesOf n)) (length out)
+-- Lent bytes after a writer that writes all of the bytes at a place, or none where they have no room there.
+unfoldable pub writtenIf : List ℕ → ℕ → List ℕ → List ℕ
+writtenIf out at bytes = cond (leb (at + length bytes) (length out)) (written out at bytes) out
+
+-- How many bytes such a writer answers.
+unfoldable pub countIf : List ℕ → ℕ → List ℕ → ℕ
+countIf out at bytes = cond (leb (at + length bytes) (length out)) (length bytes) 0

@@ -1,9 +1,8 @@
 // One number of a recording (document 01, "Recordings").
 ghost use mathlib.Core.Path.{_≡_};
-ghost use mathlib.Core.Bool.{cond};
 ghost use Prim.Native.Nat.{_+_, _≤_, _<_};
 ghost use lib.ListN.{length, drop};
-ghost use Rattle.number.specs.Number.{continued, numberIn, numberAt, bytesOf, written, fits};
+ghost use Rattle.number.specs.Number.{continued, numberIn, numberAt, bytesOf, written, writtenIf, countIf};
 
 // What stands at a place of a recording.
 pub enum Found {
@@ -97,8 +96,8 @@ fn put(out: &mut [u8], at: usize, n: u64)
 // The shortest form of n at a place, where it fits: how many bytes were written, or 0, and then nothing is changed. The
 // tests subtract, since a sum with a large place would wrap (document 01, "Recordings").
 pub fn write_number(out: &mut [u8], at: usize, n: u64) -> usize
-    ensures { λ r. ⌜ r ≡ cond (fits (now (out .entry)) at n) (length (bytesOf n)) 0 ⌝ }
-    ensures { λ _. ⌜ now (out .exit) ≡ cond (fits (now (out .entry)) at n) (written (now (out .entry)) at (bytesOf n)) (now (out .entry)) ⌝ }
+    ensures { λ r. ⌜ r ≡ countIf (now (out .entry)) at (bytesOf n) ⌝ }
+    ensures { λ _. ⌜ now (out .exit) ≡ writtenIf (now (out .entry)) at (bytesOf n) ⌝ }
 {
     let size = number_length(n);
     if out.len() < size {

@@ -12,7 +12,8 @@ use Rattle.state.specs.declared.State.{State}
 use Rattle.state.specs.Sound.{sound}
 use Rattle.room.specs.Room.{needed}
 use Rattle.operation.specs.declared.Operation.{Operation}
-use Rattle.operation.specs.Refusal.{unknownCode, notReset, outsideList, notPermitted, sizeAfter, roomTooShort, firstThat, table, refusalOf}
+use Rattle.operation.specs.Changed.{changed}
+use Rattle.operation.specs.Refusal.{unknownCode, notReset, outsideList, notPermitted, roomTooShort, firstThat, table, refusalOf}
 
 pub record Accepts (s : State) (o : Operation) (room : ℕ) : Type 0 where
   pub is-sound : sound s ≡ true
@@ -20,7 +21,7 @@ pub record Accepts (s : State) (o : Operation) (room : ℕ) : Type 0 where
   pub was-reset : notReset s o ≡ false
   pub in-list : outsideList o ≡ false
   pub permitted : notPermitted s o ≡ false
-  pub room-enough : needed (sizeAfter s o) ≤ room
+  pub room-enough : needed (changed s o .size) ≤ room
 
 -- Where the first of some lines is none, its condition does not hold, and the first of the others is none.
 no-line : (n : ℕ) (t : Bool) (lines : List (ℕ × Bool)) → firstThat ((suc n, t) ∷ lines) ≡ 0 → (t ≡ false) × (firstThat lines ≡ 0)
@@ -42,7 +43,7 @@ accepts s o room h =
       was-reset = c;
       in-list = d;
       permitted = e;
-      room-enough = ltb-false room (needed (sizeAfter s o)) f;
+      room-enough = ltb-false room (needed (changed s o .size)) f;
     }
 
 -- Where there was a reset, the size is not 0.

@@ -1,1 +1,2 @@
+pub mod Size
 pub mod Laws

@@ -11,6 +11,7 @@ use Rattle.room.specs.Room.{needed}
 use Rattle.filter.specs.Filter.{branchTypes, exceptionTypes}
 use Rattle.access.specs.Access.{isRegister}
 use Rattle.operation.specs.Operation.{codeOf}
+use Rattle.operation.specs.Changed.{changed}
 use Rattle.operation.specs.declared.Operation.{Operation}
 use Rattle.operation.specs.declared.Operation.the-variants.{Reset, Branch, Exception, Return, Platform, Read, Write, Iall, Unknown}
 
@@ -47,21 +48,9 @@ notPermitted s (Write r value) = false
 notPermitted s Iall = false
 notPermitted s Unknown = false
 
--- The size after the operation.
-abbrev pub sizeAfter : State → Operation → ℕ
-sizeAfter s (Reset size v1p1) = size
-sizeAfter s (Branch kind m source target) = s .size
-sizeAfter s (Exception kind level source target) = s .size
-sizeAfter s (Return level m source target) = s .size
-sizeAfter s (Platform p) = s .size
-sizeAfter s (Read r) = s .size
-sizeAfter s (Write r value) = s .size
-sizeAfter s Iall = s .size
-sizeAfter s Unknown = s .size
-
 -- 6: "lent room below three 64-bit numbers a record, for the size after the operation"
 unfoldable pub roomTooShort : State → Operation → ℕ → Bool
-roomTooShort s o room = ltb room (needed (sizeAfter s o))
+roomTooShort s o room = ltb room (needed (changed s o .size))
 
 -- The number of the first line whose condition holds; 0 if none does.
 abbrev pub firstThat : List (ℕ × Bool) → ℕ
@@ -71,13 +60,7 @@ firstThat (line ∷ lines) = cond (line .1) (line .0) (firstThat lines)
 -- The table, in its order: each line's number and condition. `room` is the lent room's length.
 abbrev pub table : State → Operation → ℕ → List (ℕ × Bool)
 table s o room =
-    (7, not (sound s))
-    ∷ (2, unknownCode o)
-    ∷ (3, notReset s o)
-    ∷ (4, outsideList o)
-    ∷ (5, notPermitted s o)
-    ∷ (6, roomTooShort s o room)
-    ∷ []
+    (7, not (sound s)) ∷ (2, unknownCode o) ∷ (3, notReset s o) ∷ (4, outsideList o) ∷ (5, notPermitted s o) ∷ (6, roomTooShort s o room) ∷ []
 
 -- The refusal of an operation; 0: it is accepted.
 unfoldable pub refusalOf : State → Operation → ℕ → ℕ

@@ -2,7 +2,8 @@
 ghost use mathlib.Core.Path.{_≡_};
 ghost use mathlib.Core.List.{[], _∷_};
 ghost use Rattle.operation.specs.Operation.{operationOf, codeOf};
-ghost use Rattle.operation.specs.Refusal.{unknownCode, notReset, outsideList, notPermitted, sizeAfter, roomTooShort, firstThat, refusalOf};
+ghost use Rattle.operation.specs.Changed.{changed};
+ghost use Rattle.operation.specs.Refusal.{unknownCode, notReset, outsideList, notPermitted, roomTooShort, firstThat, refusalOf};
 use filter::BranchType;
 use filter::is_exception_type;
 use state::PLATFORM_MASK;
@@ -161,7 +162,7 @@ fn not_permitted(s: State, o: Operation) -> bool
 
 // The size after the operation.
 fn size_after(s: State, o: Operation) -> u64
-    ensures { λ r. ⌜ r ≡ sizeAfter s o ⌝ }
+    ensures { λ r. ⌜ r ≡ changed s o .size ⌝ }
 {
     match o {
         Operation::Reset { size, .. } => size,

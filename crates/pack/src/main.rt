@@ -1,4 +1,5 @@
 // Numbers as text, to a recording on standard output.
+use answer::Answer;
 use arguments::Input;
 use arguments::look;
 use buffer::ROOM;
@@ -11,9 +12,8 @@ use notation::Step;
 use notation::at_end;
 use notation::at_line;
 use notation::byte_step;
-use notation::fields_of;
 use recording::Numbers;
-use recording::Writing;
+use recording::field_count;
 use recording::write_operation;
 
 // An operation has at most so many bytes: six numbers of ten.
@@ -49,7 +49,7 @@ fn say_count(code: u64, count: u64) {
     }
     say_kind(code);
     io::write_all(STDERR_FILENO, b" has ");
-    io::print_decimal(STDERR_FILENO, fields_of(code));
+    io::print_decimal(STDERR_FILENO, field_count(code));
     io::write_all(STDERR_FILENO, b" fields, and ");
     io::print_decimal(STDERR_FILENO, count - 2);
     io::write_all(STDERR_FILENO, b" stand here\n");
@@ -95,23 +95,19 @@ fn stopped(out: &[u8; ROOM], work: Work) -> Work {
 // An operation's bytes, behind what waits. No operation that was read is refused: its code is at most 7, and the longest
 // has room.
 fn put(out: &mut [u8; ROOM], waiting: usize, x: Numbers, parser: Parser) -> Work {
-    match write_operation(out, waiting, x) {
-        Writing::Wrote(n) => Work {
+    let Answer::Value(n) = write_operation(out, waiting, x) else {
+        io::write_all(STDERR_FILENO, b"pack: an operation was not written\n");
+        let work = Work {
             parser,
-            waiting: forward(waiting, n),
-            going: true,
-        },
-        Writing::Refused(_) => {
-            io::write_all(STDERR_FILENO, b"pack: an operation was not written\n");
-            stopped(
-                out,
-                Work {
-                    parser,
-                    waiting,
-                    going: false,
-                },
-            )
-        }
+            waiting,
+            going: false,
+        };
+        return stopped(out, work);
+    };
+    Work {
+        parser,
+        waiting: forward(waiting, n as usize),
+        going: true,
     }
 }
 

@@ -2,8 +2,8 @@
 // answers the place after it; what has no room is left out, which the program sees to that it does not happen.
 use buffer::ROOM;
 use buffer::forward;
-use notation::fields_of;
 use recording::Numbers;
+use recording::field_count;
 use text::write_decimal;
 use text::write_hexadecimal;
 use text::write_text;
@@ -158,7 +158,7 @@ fn put_fields(out: &mut [u8; ROOM], at: usize, x: Numbers, count: u64) -> usize 
 fn put_numbers(out: &mut [u8; ROOM], at: usize, x: Numbers) -> usize {
     let code = put_decimal(out, at, b"", x.code);
     let cycles = put_decimal(out, code, b" ", x.cycles);
-    put_fields(out, cycles, x, fields_of(x.code))
+    put_fields(out, cycles, x, field_count(x.code))
 }
 
 // The line of an operation, its end included.

@@ -1,3 +1,3 @@
+pub mod Left
 pub mod Step
-pub mod Both
 pub mod Lent

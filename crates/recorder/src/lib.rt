@@ -1,15 +1,15 @@
 // The step: one operation on a state and a lent room (document 01, whole).
 ghost use mathlib.Core.Path.{_≡_};
-ghost use Rattle.recorder.specs.Step.{numberOf, valueOf, answered, answerOf, accepted, stepOf};
-ghost use Rattle.recorder.specs.Both.{both};
-ghost use Rattle.recorder.specs.Lent.{lent, lentStepOf};
+ghost use Rattle.recorder.specs.Step.{answerOf, accepted, stepOf};
+ghost use Rattle.recorder.specs.Left.{leaves};
+ghost use Rattle.recorder.specs.Lent.{lentStepOf};
 ghost use Rattle.state.specs.Words.{loaded};
-use access::Outcome;
 use access::iall_outcome;
 use access::meant;
 use access::read_outcome;
 use access::register_value;
 use access::write_outcome;
+use answer::Answer;
 use change::changed;
 use change::effect_of;
 use change::passed;
@@ -22,74 +22,22 @@ use state::State;
 use state::load;
 use state::store;
 
-// What a step answers.
-pub enum Answer {
-    // Accepted, with nothing to show.
-    Done,
-    // A performed read, and what it read.
-    Value(u64),
-    // Accepted accesses that were not performed.
-    Undefined,
-    Trap2,
-    Trap3,
-    // The number of the refusal.
-    Refused(u64),
-}
-
-impl Answer {
-    // Document 01's number: a refusal's, or 0, 100, 102 or 103.
-    pub fn number(self) -> u64
-        ensures { λ r. ⌜ r ≡ numberOf self ⌝ }
-    {
-        match self {
-            Answer::Done => 0,
-            Answer::Value(_) => 0,
-            Answer::Undefined => 100,
-            Answer::Trap2 => 102,
-            Answer::Trap3 => 103,
-            Answer::Refused(n) => n,
-        }
-    }
-
-    // The value, 0 but for a read.
-    pub fn value(self) -> u64
-        ensures { λ r. ⌜ r ≡ valueOf self ⌝ }
-    {
-        match self {
-            Answer::Done => 0,
-            Answer::Value(v) => v,
-            Answer::Undefined => 0,
-            Answer::Trap2 => 0,
-            Answer::Trap3 => 0,
-            Answer::Refused(_) => 0,
-        }
-    }
-}
-
 // A step's answer, and the state as it leaves it; the room it leaves is the lent one.
 pub struct Stepped {
     pub answer: Answer,
     pub state: State,
 }
 
-// What an access answers.
-fn answered(ended: Outcome, performed: Answer) -> Answer
-    ensures { λ r. ⌜ r ≡ answered ended performed ⌝ }
-{
-    match ended {
-        Outcome::Performed => performed,
-        Outcome::Undefined => Answer::Undefined,
-        Outcome::Trap2 => Answer::Trap2,
-        Outcome::Trap3 => Answer::Trap3,
-    }
-}
-
 // What a read answers.
 fn read_answer(s: State, room: &[u64], register: u64) -> Answer
     ensures { λ r. ⌜ r ≡ answerOf s (Operation.Read register) (now (room .entry)) ⌝ }
 {
-    let value = register_value(s, room, meant(s, register));
-    answered(read_outcome(s, register), Answer::Value(value))
+    let ended = read_outcome(s, register);
+    if ended.is_done() {
+        Answer::Value(register_value(s, room, meant(s, register)))
+    } else {
+        ended
+    }
 }
 
 // What an accepted operation answers.
@@ -103,15 +51,15 @@ fn answer_of(s: State, room: &[u64], o: Operation) -> Answer
         Operation::Return { .. } => Answer::Done,
         Operation::Platform { .. } => Answer::Done,
         Operation::Read { register } => read_answer(s, room, register),
-        Operation::Write { register, .. } => answered(write_outcome(s, register), Answer::Done),
-        Operation::Iall => answered(iall_outcome(s), Answer::Done),
+        Operation::Write { register, .. } => write_outcome(s, register),
+        Operation::Iall => iall_outcome(s),
         Operation::Unknown => Answer::Done,
     }
 }
 
 // An accepted operation: all is decided first, and then the room is written.
 fn accept(s: State, room: &mut [u64], o: Operation, cycles: u64) -> Stepped
-    ensures { λ r. ⌜ both r (now (room .exit)) ≡ accepted s o cycles (now (room .entry)) ⌝ }
+    ensures { λ r. ⌜ leaves (r .answer) (r .state) (now (room .exit)) ≡ accepted s o cycles (now (room .entry)) ⌝ }
 {
     let answer = answer_of(s, &room[..], o);
     let after = changed(s, o);
@@ -124,7 +72,7 @@ fn accept(s: State, room: &mut [u64], o: Operation, cycles: u64) -> Stepped
 
 // One operation, in any state, with any lent room: refused, and then nothing is changed, or accepted.
 pub fn step(s: State, room: &mut [u64], o: Operation, cycles: u64) -> Stepped
-    ensures { λ r. ⌜ both r (now (room .exit)) ≡ stepOf s o cycles (now (room .entry)) ⌝ }
+    ensures { λ r. ⌜ leaves (r .answer) (r .state) (now (room .exit)) ≡ stepOf s o cycles (now (room .entry)) ⌝ }
 {
     let number = refusal(s, o, room.len());
     if number == 0 {
@@ -139,7 +87,7 @@ pub fn step(s: State, room: &mut [u64], o: Operation, cycles: u64) -> Stepped
 
 // The same on a state that is lent as numbers: it is loaded and judged first, and stored where the step left it.
 pub fn lent_step(words: &mut [u64], room: &mut [u64], o: Operation, cycles: u64) -> Answer
-    ensures { λ r. ⌜ lent r (now (words .exit)) (now (room .exit)) ≡ lentStepOf (now (words .entry)) o cycles (now (room .entry)) (loaded (now (words .entry))) ⌝ }
+    ensures { λ r. ⌜ leaves r (now (words .exit)) (now (room .exit)) ≡ lentStepOf (now (words .entry)) o cycles (now (room .entry)) (loaded (now (words .entry))) ⌝ }
 {
     let loaded = load(&words[..]);
     match loaded {

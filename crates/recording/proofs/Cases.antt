@@ -1,10 +1,11 @@
 -- What proofs on operations go by cases on.
-use Prim.Native.Nat.{ℕ, zero, suc, _≤_}
-use mathlib.Core.Path.{_≡_, refl}
+use Prim.Native.Nat.{ℕ, zero, suc, _≤_, _<_}
+use mathlib.Core.Path.{_≡_, refl, sym}
 use mathlib.Core.List.{[], _∷_}
 use mathlib.Core.Logic.{⊎-elim}
 use native.Mathlib.Omega.{arith}
 use denote.Enum.Declared.{tagOf}
+use lib.ListN.{List·getD-eq-default}
 use types.Run.{OneOf}
 use Rattle.number.proofs.Found.{the-type}
 use Rattle.number.specs.declared.Found.{Found}
@@ -29,3 +30,8 @@ fields-at-most (suc (suc (suc (suc (suc zero))))) = (omega arith, λ e. omega ar
 fields-at-most (suc (suc (suc (suc (suc (suc zero)))))) = (omega arith, λ e. omega arith)
 fields-at-most (suc (suc (suc (suc (suc (suc (suc zero))))))) = (omega arith, λ e. omega arith)
 fields-at-most (suc (suc (suc (suc (suc (suc (suc (suc code)))))))) = (omega arith, λ e. omega arith)
+
+-- Codes above 7 have no field
+pub no-fields : (code : ℕ) → 7 < code → 0 ≡ fieldCount code
+unfolding fieldCount
+no-fields code h = sym (List·getD-eq-default (2 ∷ 4 ∷ 4 ∷ 4 ∷ 1 ∷ 1 ∷ 2 ∷ 0 ∷ []) 0 {n = code} (omega arith))

@@ -17,7 +17,7 @@ use Rattle.recording.specs.declared.Numbers.{Numbers}
 use Rattle.recording.specs.declared.Reading.{Reading}
 use Rattle.recording.specs.declared.Reading.the-variants.{Operation, UnknownCode}
 use Rattle.recording.specs.Recording.{fieldCount, Several, got, bad, inFront, thenRead, numbersAt, numbersOf, withFields, afterCode, operationAt, bytesOfAll, ownNumbers, operationBytes}
-use Rattle.recording.specs.Operations.{ownFields, recordingBytes, Contents, stopped, andThen, contentsFrom, contentsOf}
+use Rattle.recording.specs.Operations.{ownFields, recordingBytes, Holds, ends, reads}
 use Rattle.recording.proofs.Cases.{fields-at-most}
 
 -- Each element is below 2^64
@@ -194,78 +194,36 @@ abbrev pub AllWritable : List Numbers → Type 0
 AllWritable [] = Unit {0}
 AllWritable (x ∷ list) = Writable x × AllWritable list
 
-some-bytes : (x : Numbers) → 1 ≤ length (operationBytes x)
-unfolding operationBytes bytesOfAll
-some-bytes x = omega (arith, length-of (x .code), length-append (bytesOf (x .code)) (bytesOfAll (ownNumbers x)))
-
-bytes-enough : (list : List Numbers) → length list ≤ length (recordingBytes list)
+written-from : (list : List Numbers) (s : List ℕ) (at : ℕ) → AllWritable list → drop at s ≡ recordingBytes list
+    → Holds s at (map ownFields list)
 unfolding recordingBytes
-bytes-enough [] = omega arith
-bytes-enough (x ∷ list) =
-    omega (arith, bytes-enough list, some-bytes x, length-append (operationBytes x) (recordingBytes list))
+written-from [] s at w e = let sizes = simp length-drop at (ap length e) in ends {at = at} (omega arith)
+written-from (x ∷ list) s at w e =
+    reads (read-written-operation s at x (recordingBytes list) (w .0) e)
+    (written-from list s (at + length (operationBytes x)) (w .1) (past s at (operationBytes x) (recordingBytes list) e))
 
-holds-from : (k : ℕ) (list : List Numbers) (s : List ℕ) (at : ℕ) → AllWritable list → length list ≤ k
-    → drop at s ≡ recordingBytes list → contentsFrom k s at ≡ record { operations = map ownFields list; refusal = 0 }
-unfolding recordingBytes contentsFrom
-holds-from zero [] s at w h e = refl
-holds-from zero (x ∷ list) s at w h e = absurd (omega arith)
-holds-from (suc k) [] s at w h e =
-    let sizes = simp length-drop at (ap length e) in
-    rw (le-leb (length s) at (omega arith))
-holds-from (suc k) (x ∷ list) s at w h e =
-    let sizes = simp (length-drop, length-append) at (ap length e) in
-    let some = some-bytes x in
-    let first = read-written-operation s at x (recordingBytes list) (w .0) e in
-    let rest = holds-from k list s (at + length (operationBytes x)) (w .1) (omega arith) (past s at (operationBytes x) (recordingBytes list) e) in
-    rw (lt-leb (length s) at (omega arith), first, rest)
-
-pub list-round-trip : (list : List Numbers) → AllWritable list
-    → contentsOf (recordingBytes list) ≡ record { operations = map ownFields list; refusal = 0 }
-unfolding contentsOf
-list-round-trip list w =
-    holds-from (length (recordingBytes list)) list (recordingBytes list) 0 w (bytes-enough list) refl
+pub list-round-trip : (list : List Numbers) → AllWritable list → Holds (recordingBytes list) 0 (map ownFields list)
+list-round-trip list w = written-from list (recordingBytes list) 0 w refl
 
 -- A recording that reads to the end of input is what its operations are written as
-and-inv : (rest : ℕ → Contents) (r : Reading) (list : List Numbers) → andThen rest r ≡ record { operations = list; refusal = 0 }
-    → (x : Numbers) × (next : ℕ) × (r ≡ Operation x next) × (list ≡ x ∷ rest next .operations) × (rest next .refusal ≡ 0)
-and-inv rest (Operation x next) list e = (x, next, refl, sym (ap (λ (c : Contents). c .operations) e), ap (λ (c : Contents). c .refusal) e)
-and-inv rest (Reading.Malformed place) list e = never (sym (ap (λ (c : Contents). c .refusal) e))
-and-inv rest (UnknownCode place) list e = absurd (omega (arith, ap (λ (c : Contents). c .refusal) e))
-
-at-end : (s : List ℕ) (at : ℕ) (list : List Numbers) → length s ≤ at → stopped 0 ≡ record { operations = list; refusal = 0 }
-    → AllWritable list × (drop at s ≡ recordingBytes list)
+pub reads-from : {s : List ℕ} {at : ℕ} {list : List Numbers} → Bytes s → Holds s at list → AllWritable list × (drop at s ≡ recordingBytes list)
 unfolding recordingBytes
-at-end s at list f e =
-    let none : [] ≡ list = ap (λ (c : Contents). c .operations) e in
-    rw (← none) (tt, drop-of-length-le s f)
+reads-from {s} h (ends f) = (tt, drop-of-length-le s f)
+reads-from {s} {at} h (reads {next = next} {x = x} e rest) =
+    let one = what-was-read s at x next h e in
+    let more = reads-from h rest in
+    ((one .again, more .0), one .bytes ∙ ap (λ (b : List ℕ). operationBytes x ++ b) (more .1))
 
-reads-from : (k : ℕ) (s : List ℕ) (at : ℕ) (list : List Numbers) → Bytes s → length s ≤ at + k
-    → contentsFrom k s at ≡ record { operations = list; refusal = 0 } → AllWritable list × (drop at s ≡ recordingBytes list)
-unfolding recordingBytes contentsFrom
-reads-from zero s at list h f e = at-end s at list (omega arith) e
-reads-from (suc k) s at list h f e =
-    ⊎-elim (λ l.
-    let i = and-inv (contentsFrom k s) (operationAt s at) list (rw (lt-leb (length s) at l) at e) in
-    let one = what-was-read s at (i .0) (i .1) h (i .2) in
-    let rest : List Numbers = contentsFrom k s (i .1) .operations in
-    let same : contentsFrom k s (i .1) ≡ record { operations = rest; refusal = 0 } = ap (λ (n : ℕ). record { operations = rest; refusal = n }) (i .4) in
-    let more = reads-from k s (i .1) rest h (omega arith) same in
-    rw (i .3) ((one .again, more .0), one .bytes ∙ ap (λ (b : List ℕ). operationBytes (i .0) ++ b) (more .1)))
-    (λ g. at-end s at list g (rw (le-leb (length s) at g) at e))
-    (below-or-not at (length s))
+pub whole-recording : (s : List ℕ) (list : List Numbers) → Bytes s → Holds s 0 list → AllWritable list × (s ≡ recordingBytes list)
+whole-recording s list h r = reads-from h r
 
-pub whole-recording : (s : List ℕ) (list : List Numbers) → Bytes s → contentsOf s ≡ record { operations = list; refusal = 0 }
-    → AllWritable list × (s ≡ recordingBytes list)
-unfolding contentsOf
-whole-recording s list h e = reads-from (length s) s 0 list h (omega arith) e
-
--- A branch and a BRB IALL with numbers beyond its fields; a code of 8 whose cycles are cut off; a read without its register
-operation : ℕ → ℕ → ℕ → ℕ → ℕ → ℕ → Numbers
-operation code cycles a b c d = record { code = code; cycles = cycles; a = a; b = b; c = c; d = d }
-
-examples : (contentsOf (recordingBytes (operation 1 300 8 1 4112 4096 ∷ operation 7 5 9 9 9 9 ∷ []))
-    ≡ record { operations = operation 1 300 8 1 4112 4096 ∷ operation 7 5 0 0 0 0 ∷ []; refusal = 0 })
-    × (contentsOf (7 ∷ 0 ∷ 8 ∷ 0x80 ∷ []) ≡ record { operations = operation 7 0 0 0 0 0 ∷ []; refusal = 2 })
-    × (contentsOf (7 ∷ 0 ∷ 5 ∷ 0 ∷ []) ≡ record { operations = operation 7 0 0 0 0 0 ∷ []; refusal = 1 })
-unfolding numberIn numberAt bytesIn bytesOf fieldCount numbersAt operationAt bytesOfAll operationBytes recordingBytes contentsFrom contentsOf operation
-examples = (refl, refl, refl)
+-- A recording holds one list
+pub one-content : {s : List ℕ} {at : ℕ} {l m : List Numbers} → Bytes s → Holds s at l → Holds s at m → l ≡ m
+one-content h (ends f) (ends g) = refl
+one-content {s} {at} h (ends f) (reads {next = next} {x = x} e r) = let one = what-was-read s at x next h e in absurd (omega arith)
+one-content {s} {at} h (reads {next = next} {x = x} e r) (ends f) = let one = what-was-read s at x next h e in absurd (omega arith)
+one-content {s} h (reads {next = n} {x = x} {list = l} e r) (reads {next = m} {x = y} d t) =
+    let both : Operation x n ≡ Operation y m = sym e ∙ d in
+    let same : x ≡ y = cc in
+    let place : n ≡ m = cc in
+    rw same (ap (λ (list : List Numbers). y ∷ list) (one-content h (subst (λ (i : ℕ). Holds s i l) place r) t))

@@ -1,3 +1,4 @@
 pub mod Cases
+pub mod SoFar
 pub mod Several
 pub mod Laws

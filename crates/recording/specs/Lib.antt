@@ -1,4 +1,3 @@
 pub mod Recording
 pub mod RecordedStep
-pub mod Both
 pub mod Operations

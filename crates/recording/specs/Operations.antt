@@ -1,12 +1,12 @@
 -- Document 01, "Recordings": "Operations one after another to the end of input."
-use Prim.Native.Nat.{ℕ, zero, suc}
+use Prim.Native.Nat.{ℕ, _≤_}
+use mathlib.Core.Path.{_≡_}
 use mathlib.Core.Bool.{cond}
 use mathlib.Core.List.{List, [], _∷_, _++_}
 use lib.Dec.{leb}
 use lib.ListN.{length, drop}
 use Rattle.recording.specs.declared.Numbers.{Numbers}
-use Rattle.recording.specs.declared.Reading.{Reading}
-use Rattle.recording.specs.declared.Reading.the-variants.{Operation, Malformed, UnknownCode}
+use Rattle.recording.specs.declared.Reading.the-variants.{Operation}
 use Rattle.recording.specs.Recording.{numbersOf, ownNumbers, operationAt, operationBytes}
 
 -- An operation as a reader gives it: 0 for the numbers beyond its own fields.
@@ -23,27 +23,9 @@ unfoldable pub recordingBytes : List Numbers → List ℕ
 recordingBytes [] = []
 recordingBytes (x ∷ list) = operationBytes x ++ recordingBytes list
 
--- What a recording holds: its operations, and the refusal where reading stopped; 0 at the end of input, with nothing left
--- over.
-pub record Contents : Type 0 where
-  pub operations : List Numbers
-  pub refusal : ℕ
-
-abbrev pub stopped : ℕ → Contents
-stopped refusal = record { operations = []; refusal = refusal }
-
--- An operation that was read in front of the rest, which is read after it.
-abbrev pub andThen : (ℕ → Contents) → Reading → Contents
-andThen rest (Operation x next) = record { operations = x ∷ rest next .operations; refusal = rest next .refusal }
-andThen rest (Malformed place) = stopped 1
-andThen rest (UnknownCode place) = stopped 2
-
--- What a recording holds from a place on, of at most k operations.
-unfoldable pub contentsFrom : ℕ → List ℕ → ℕ → Contents
-contentsFrom zero bytes at = stopped 0
-contentsFrom (suc k) bytes at =
-    cond (leb (length bytes) at) (stopped 0) (andThen (contentsFrom k bytes) (operationAt bytes at))
-
--- Each operation has a byte at least, so that a recording's length bounds its operations.
-unfoldable pub contentsOf : List ℕ → Contents
-contentsOf bytes = contentsFrom (length bytes) bytes 0
+-- The operations that a recording holds from a place on: none at the end of input, else the one that is read there and those
+-- after it.
+pub data Holds (bytes : List ℕ) : ℕ → List Numbers → Type 0 where
+  ends : {at : ℕ} → length bytes ≤ at → Holds bytes at []
+  reads : {at next : ℕ} {x : Numbers} {list : List Numbers} → operationAt bytes at ≡ Operation x next → Holds bytes next list
+      → Holds bytes at (x ∷ list)

@@ -3,19 +3,21 @@
 use Prim.Native.Nat.{ℕ}
 use mathlib.Core.Bool.{Bool, cond}
 use mathlib.Core.List.{List, [], _∷_}
+use Rattle.answer.specs.declared.Answer.{Answer}
+use Rattle.answer.specs.Answer.{returned}
 use Rattle.bits.specs.Bits.{oneOf}
 use Rattle.state.specs.declared.State.{State}
 use Rattle.state.specs.Sound.{sound}
 use Rattle.operation.specs.Operation.{operationOf}
-use Rattle.recorder.specs.declared.Answer.{Answer}
-use Rattle.recorder.specs.Step.{Result, numberOf, refused, stepOf}
+use Rattle.recorder.specs.Left.{Left}
+use Rattle.recorder.specs.Step.{refused, stepOf}
 use Rattle.recording.specs.declared.Reading.{Reading}
 use Rattle.recording.specs.declared.Reading.the-variants.{Operation, Malformed, UnknownCode}
 use Rattle.recording.specs.Recording.{operationAt}
 
 -- A step's result, and the place where reading goes on.
 pub record Recorded : Type 0 where
-  pub result : Result
+  pub result : Left Answer State
   pub next : ℕ
 
 abbrev pub stepOfReading : State → List ℕ → Reading → Recorded
@@ -31,4 +33,4 @@ recordedStep s room bytes at =
 
 -- "After 7, 1 or 2 reading stops; after another refusal it goes on."
 abbrev pub stopsReading : Answer → Bool
-stopsReading a = oneOf (7 ∷ 1 ∷ 2 ∷ []) (numberOf a)
+stopsReading a = oneOf (7 ∷ 1 ∷ 2 ∷ []) (returned a .number)

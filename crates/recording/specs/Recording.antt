@@ -4,14 +4,13 @@ use mathlib.Core.Bool.{cond}
 use mathlib.Core.List.{List, [], _∷_, _++_}
 use lib.Dec.{ltb, eqb}
 use lib.ListN.{length, getD, take}
+use Rattle.answer.specs.declared.Answer.{Answer}
 use Rattle.number.specs.declared.Found.{Found}
 use Rattle.number.specs.declared.Found.the-variants.{Value, Malformed, Ended}
 use Rattle.number.specs.Number.{numberAt, bytesOf, written}
 use Rattle.recording.specs.declared.Numbers.{Numbers}
 use Rattle.recording.specs.declared.Reading.{Reading}
 use Rattle.recording.specs.declared.Reading.the-variants.{Operation, UnknownCode}
-use Rattle.recording.specs.declared.Writing.{Writing}
-use Rattle.recording.specs.declared.Writing.the-variants.{Wrote, Refused}
 
 -- Document 01, "Operations": how many fields each code has.
 unfoldable pub fieldCount : ℕ → ℕ
@@ -36,10 +35,13 @@ unfoldable pub numbersAt : ℕ → List ℕ → ℕ → Several
 numbersAt zero bytes at = got [] at
 numbersAt (suc k) bytes at = thenRead (numbersAt k bytes) at (numberAt bytes at)
 
+-- An operation as document 01 writes it: code, cycles, then fields.
+abbrev pub numbers : ℕ → ℕ → ℕ → ℕ → ℕ → ℕ → Numbers
+numbers code cycles a b c d = record { code = code; cycles = cycles; a = a; b = b; c = c; d = d }
+
 -- An operation from its code, and its cycles and fields in a list: "a reader gives 0" for numbers beyond its own fields.
 abbrev pub numbersOf : ℕ → List ℕ → Numbers
-numbersOf code list =
-    record { code = code; cycles = getD list 0 0; a = getD list 1 0; b = getD list 2 0; c = getD list 3 0; d = getD list 4 0 }
+numbersOf code list = numbers code (getD list 0 0) (getD list 1 0) (getD list 2 0) (getD list 3 0) (getD list 4 0)
 
 -- Cycles and fields of an operation whose code was read.
 abbrev pub withFields : ℕ → Several → Reading
@@ -79,15 +81,6 @@ writeRefusal x at out =
 unfoldable pub writtenOperation : Numbers → ℕ → List ℕ → List ℕ
 writtenOperation x at out = cond (eqb (writeRefusal x at out) 0) (written out at (operationBytes x)) out
 
-unfoldable pub writingOf : Numbers → ℕ → List ℕ → Writing
+unfoldable pub writingOf : Numbers → ℕ → List ℕ → Answer
 writingOf x at out =
-    cond (eqb (writeRefusal x at out) 0) (Wrote (length (operationBytes x))) (Refused (writeRefusal x at out))
-
--- The answer as document 01's numbers: the refusal, or 0 and the bytes written.
-abbrev pub numberOfWriting : Writing → ℕ
-numberOfWriting (Wrote n) = 0
-numberOfWriting (Refused n) = n
-
-abbrev pub valueOfWriting : Writing → ℕ
-valueOfWriting (Wrote n) = n
-valueOfWriting (Refused n) = 0
+    cond (eqb (writeRefusal x at out) 0) (Answer.Value (length (operationBytes x))) (Answer.Refused (writeRefusal x at out))

@@ -4,15 +4,15 @@ ghost use Prim.Native.Nat.{suc, _+_, _≤_};
 ghost use lib.ListN.{length, take};
 ghost use Rattle.number.specs.Number.{written};
 ghost use Rattle.recording.specs.Operations.{storedNumbers};
-ghost use Rattle.recording.specs.Recording.{fieldCount, numbersAt, withFields, operationAt, bytesOfAll, writtenOperation, writingOf, numberOfWriting, valueOfWriting};
+ghost use Rattle.recording.specs.Recording.{fieldCount, numbersAt, withFields, operationAt, bytesOfAll, writtenOperation, writingOf, numbers};
 ghost use Rattle.recording.specs.RecordedStep.{recordedStep, stopsReading};
-ghost use Rattle.recording.specs.Both.{both};
+ghost use Rattle.recorder.specs.Left.{leaves};
+use answer::Answer;
 use number::Found;
 use number::number_at;
 use number::number_length;
 use number::write_number;
 use operation::operation_of;
-use recorder::Answer;
 use recorder::step;
 use state::State;
 
@@ -26,6 +26,21 @@ pub struct Numbers {
     pub d: u64,
 }
 
+impl Numbers {
+    pub fn new(code: u64, cycles: u64, a: u64, b: u64, c: u64, d: u64) -> Numbers
+        ensures { λ r. ⌜ r ≡ numbers code cycles a b c d ⌝ }
+    {
+        Numbers {
+            code,
+            cycles,
+            a,
+            b,
+            c,
+            d,
+        }
+    }
+}
+
 // What reading an operation at a place finds.
 pub enum Reading {
     // The operation, and the place after it.
@@ -36,59 +51,21 @@ pub enum Reading {
     UnknownCode(usize),
 }
 
-// What writing an operation answers.
-pub enum Writing {
-    // The number of bytes written.
-    Wrote(usize),
-    // The number of the refusal.
-    Refused(u64),
-}
-
-impl Writing {
-    // Document 01's number: a refusal's, or 0.
-    pub fn number(self) -> u64
-        ensures { λ r. ⌜ r ≡ numberOfWriting self ⌝ }
-    {
-        match self {
-            Writing::Wrote(_) => 0,
-            Writing::Refused(n) => n,
-        }
-    }
-
-    // "the number of bytes it wrote", 0 where it refused.
-    pub fn value(self) -> u64
-        ensures { λ r. ⌜ r ≡ valueOfWriting self ⌝ }
-    {
-        match self {
-            Writing::Wrote(n) => n as u64,
-            Writing::Refused(_) => 0,
-        }
-    }
-}
-
 // How many fields each code has (document 01, "Operations").
-const FIELDS: [u8; 8] = [2, 4, 4, 4, 1, 1, 2, 0];
+const FIELDS: [u64; 8] = [2, 4, 4, 4, 1, 1, 2, 0];
 
-fn field_count(code: u64) -> u8
-    requires { ⌜ code ≤ 7 ⌝ }
-    ensures { λ r. ⌜ r ≡ fieldCount code ⌝ }
+// 0 for a code above 7, which has none.
+pub fn field_count(code: u64) -> u64
+    ensures { λ r. ⌜ (r ≡ fieldCount code) × (r ≤ 4) ⌝ }
 {
-    FIELDS[code as usize]
+    if code < 8 { FIELDS[code as usize] } else { 0 }
 }
 
 // An operation that was read, and the place after it. What its code has no field for is handed in as 0.
 fn operation(code: u64, cycles: u64, a: u64, b: u64, c: u64, d: u64, next: usize) -> Reading
-    ensures { λ r. ⌜ r ≡ Reading.Operation (record { code = code; cycles = cycles; a = a; b = b; c = c; d = d }) next ⌝ }
+    ensures { λ r. ⌜ r ≡ Reading.Operation (numbers code cycles a b c d) next ⌝ }
 {
-    let x = Numbers {
-        code,
-        cycles,
-        a,
-        b,
-        c,
-        d,
-    };
-    Reading::Operation(x, next)
+    Reading::Operation(Numbers::new(code, cycles, a, b, c, d), next)
 }
 
 // Cycles and fields after a code (document 01, "Refusal numbers": "then all fields (1)"). A chain and no loop, since a
@@ -168,24 +145,24 @@ fn write_numbers(out: &mut [u8], at: usize, list: [u64; 6], count: usize)
 // An operation at a place of lent bytes (document 01, "Refusal numbers": "The writer checks only 2, then 6, and answers the
 // number of bytes it wrote."). The whole length is known before the first byte is written, so that a refusal writes
 // nothing. The tests subtract, since a sum with a large place would wrap.
-pub fn write_operation(out: &mut [u8], at: usize, x: Numbers) -> Writing
+pub fn write_operation(out: &mut [u8], at: usize, x: Numbers) -> Answer
     ensures { λ r. ⌜ r ≡ writingOf x at (now (out .entry)) ⌝ }
     ensures { λ _. ⌜ now (out .exit) ≡ writtenOperation x at (now (out .entry)) ⌝ }
 {
     if 7 < x.code {
-        return Writing::Refused(2);
+        return Answer::Refused(2);
     }
     let list = [x.code, x.cycles, x.a, x.b, x.c, x.d];
     let count = field_count(x.code) as usize + 2;
     let size = numbers_length(list, count);
     if out.len() < size {
-        return Writing::Refused(6);
+        return Answer::Refused(6);
     }
     if out.len() - size < at {
-        return Writing::Refused(6);
+        return Answer::Refused(6);
     }
     write_numbers(out, at, list, count);
-    Writing::Wrote(size)
+    Answer::Value(size as u64)
 }
 
 // A recorded step's answer, the state as it leaves it, and the place where reading goes on; the room it leaves is the
@@ -199,7 +176,7 @@ pub struct Replayed {
 // One operation of a recording (document 01, "Refusal numbers": "7 comes first, then the code is read (1, then 2), then all
 // fields (1), then the rest."). After 7 nothing was read, so that the place is the one handed in.
 pub fn recorded_step(s: State, room: &mut [u64], bytes: &[u8], at: usize) -> Replayed
-    ensures { λ r. ⌜ both r (now (room .exit)) ≡ recordedStep s (now (room .entry)) (now (bytes .entry)) at ⌝ }
+    ensures { λ r. ⌜ record { result = leaves (r .answer) (r .state) (now (room .exit)); next = r .next } ≡ recordedStep s (now (room .entry)) (now (bytes .entry)) at ⌝ }
 {
     if !s.sound() {
         return refused(7, s, at);

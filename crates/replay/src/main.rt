@@ -9,7 +9,6 @@ use buffer::move_down;
 use libc::STDOUT_FILENO;
 use line::LONGEST_LINE;
 use line::replay_one;
-use state::Running;
 use state::State;
 
 // An operation has at most so many bytes: six numbers of ten.
@@ -29,22 +28,8 @@ struct Progress {
 }
 
 fn fresh() -> Progress {
-    let running = Running {
-        count: 0,
-        unknown: 0,
-    };
-    let state = State {
-        level: 0,
-        size: 0,
-        v1p1: 0,
-        p: 0,
-        brbcr1: 0,
-        brbcr2: 0,
-        brbfcr: 0,
-        running,
-    };
     Progress {
-        state,
+        state: State::fresh(),
         at: 0,
         end: 0,
         used: 0,

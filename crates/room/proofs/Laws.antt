@@ -16,7 +16,7 @@ use Rattle.bits.proofs.Each.{first, second}
 use Rattle.room.specs.declared.Record.{Record}
 use Rattle.room.specs.declared.Effect.{Effect}
 use Rattle.room.specs.declared.Effect.the-variants.{Keep, Push, Clear, Start}
-use Rattle.room.specs.Room.{zeroRecord, newest, records, numbered, needed, pushed, cleared, roomAfter, sizeAfterEffect, placed}
+use Rattle.room.specs.Room.{zeroRecord, placed, records, numbered, needed, pushed, cleared, roomAfter}
 
 -- A third of the room is below a size exactly when the room is below what the size needs: a test that cannot overflow.
 pub third-below : (numbers size : ℕ) → ltb (numbers / 3) size ≡ ltb numbers (needed size)
@@ -47,7 +47,7 @@ record-number (suc size) (suc r) room = rw (leb·suc-suc (suc r) size, ← place
 take-records : (n : ℕ) (room : List ℕ) → take n (records (suc n) room) ≡ records n room
 unfolding records
 take-records zero room = refl
-take-records (suc n) room = ap (λ (l : List Record). newest room ∷ l) (take-records n (drop 3 room))
+take-records (suc n) room = ap (λ (l : List Record). placed 0 room ∷ l) (take-records n (drop 3 room))
 
 -- The first n records are those of the first 3n numbers.
 records-front : (n : ℕ) (room rest : List ℕ) → needed n ≤ length room → records n (take (needed n) room ++ rest) ≡ records n room
@@ -57,7 +57,7 @@ records-front (suc n) [] rest h = absurd (omega arith)
 records-front (suc n) (a ∷ []) rest h = absurd (omega arith)
 records-front (suc n) (a ∷ b ∷ []) rest h = absurd (omega arith)
 records-front (suc n) (a ∷ b ∷ c ∷ room) rest h =
-    rw (three n) (ap (λ (l : List Record). newest (a ∷ b ∷ c ∷ room) ∷ l) (records-front n room rest (omega arith)))
+    rw (three n) (ap (λ (l : List Record). placed 0 (a ∷ b ∷ c ∷ room) ∷ l) (records-front n room rest (omega arith)))
 
 -- "A new record becomes number 0, the others move up one, the oldest of a full buffer is lost."
 pub records-pushed : (size : ℕ) (r : Record) (room : List ℕ) → 1 ≤ size → needed size ≤ length room
@@ -105,6 +105,13 @@ unfolding cleared
 kept-cleared size room =
     kept (needed size) (replicate (needed size) 0) room (leb (needed size) (length room))
     (λ e. (length-replicate (needed size) 0, leb-true (needed size) (length room) e))
+
+-- The size after an effect: a reset brings its own.
+abbrev pub sizeAfterEffect : ℕ → Effect → ℕ
+sizeAfterEffect size Keep = size
+sizeAfterEffect size (Push r) = size
+sizeAfterEffect size Clear = size
+sizeAfterEffect size (Start n) = n
 
 kept-after : (size : ℕ) (e : Effect) (room : List ℕ) → Kept (needed (sizeAfterEffect size e)) room (roomAfter size e room)
 unfolding roomAfter

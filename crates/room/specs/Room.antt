@@ -1,5 +1,5 @@
 -- The records as a list, newest first, and their places in the lent room. Document 01, "Which events become records",
--- last paragraph: "In the room, record r is BRBINF, BRBSRC, BRBTGT at 3r."
+-- last paragraph.
 use Prim.Native.Nat.{ℕ, zero, suc, _+_, _*_, _-_}
 use mathlib.Core.Bool.{cond, _&&_}
 use mathlib.Core.List.{List, [], _∷_, _++_}
@@ -12,14 +12,14 @@ use Rattle.room.specs.declared.Effect.the-variants.{Keep, Push, Clear, S
 abbrev pub zeroRecord : Record
 zeroRecord = record { inf = 0; source = 0; target = 0 }
 
--- Record 0 of a room.
-abbrev pub newest : List ℕ → Record
-newest room = record { inf = getD room 0 0; source = getD room 1 0; target = getD room 2 0 }
+-- "In the room, record r is BRBINF, BRBSRC, BRBTGT at 3r."
+abbrev pub placed : ℕ → List ℕ → Record
+placed r room = record { inf = getD room (3 * r) 0; source = getD room (3 * r + 1) 0; target = getD room (3 * r + 2) 0 }
 
 -- The records of a room, newest first.
 unfoldable pub records : ℕ → List ℕ → List Record
 records zero room = []
-records (suc size) room = newest room ∷ records size (drop 3 room)
+records (suc size) room = placed 0 room ∷ records size (drop 3 room)
 
 -- Record number r of the list; a zero record where there is none.
 unfoldable pub numbered : ℕ → List Record → Record
@@ -47,14 +47,3 @@ roomAfter size Keep room = room
 roomAfter size (Push r) room = pushed size r room
 roomAfter size Clear room = cleared size room
 roomAfter size (Start n) room = cleared n room
-
--- The size after an effect: a reset brings its own.
-abbrev pub sizeAfterEffect : ℕ → Effect → ℕ
-sizeAfterEffect size Keep = size
-sizeAfterEffect size (Push r) = size
-sizeAfterEffect size Clear = size
-sizeAfterEffect size (Start n) = n
-
--- The record whose numbers stand at place 3r of a room.
-abbrev pub placed : ℕ → List ℕ → Record
-placed r room = record { inf = getD room (3 * r) 0; source = getD room (3 * r + 1) 0; target = getD room (3 * r + 2) 0 }

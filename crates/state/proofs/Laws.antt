@@ -14,7 +14,7 @@ use Rattle.bits.proofs.Each.{second}
 use Rattle.state.specs.declared.State.{State}
 use Rattle.state.specs.declared.Loaded.the-variants.{Held}
 use Rattle.state.specs.Sound.{sound}
-use Rattle.state.specs.Words.{stateNumbers, stateOf, wordsOf, stored, loaded}
+use Rattle.state.specs.Words.{stateOf, wordsOf, stored, loaded}
 
 pub load-stored : (s : State) (w : List ℕ) → 9 ≤ length w → stateOf (stored s w) ≡ s
 unfolding stored
@@ -30,13 +30,13 @@ stored-loaded w =
 -- A state that was loaded is the one that the lent numbers hold, and it is sound.
 pub held : (w : List ℕ) (s : State) → loaded w ≡ Held s → (s ≡ stateOf w) × (sound s ≡ true)
 unfolding loaded
-held w s e = go (either (leb stateNumbers (length w) && sound (stateOf w)))
+held w s e = go (either (leb 9 (length w) && sound (stateOf w)))
   where
-    go : ((leb stateNumbers (length w) && sound (stateOf w)) ≡ true) ⊎ ((leb stateNumbers (length w) && sound (stateOf w)) ≡ false)
+    go : ((leb 9 (length w) && sound (stateOf w)) ≡ true) ⊎ ((leb 9 (length w) && sound (stateOf w)) ≡ false)
         → (s ≡ stateOf w) × (sound s ≡ true)
     go (inl h) =
         let same : s ≡ stateOf w = cc (rw h at e) in
-        (same, rw same (second (leb stateNumbers (length w)) (sound (stateOf w)) h))
+        (same, rw same (second (leb 9 (length w)) (sound (stateOf w)) h))
     go (inr h) = never (cc (rw h at e))
 
 -- Storing what was loaded leaves the lent numbers as they were.

@@ -23,9 +23,6 @@ E2H s = isSet 3 (s .p)
 abbrev pub SBRBE : State → ℕ
 SBRBE s = part 5 4 (s .p)
 
-abbrev pub EL3Recording : State → Bool
-EL3Recording s = isSet 6 (s .p)
-
 abbrev pub FGTEn : State → Bool
 FGTEn s = isSet 8 (s .p)
 
@@ -51,7 +48,7 @@ EL2Enabled s = NS s || EEL2 s
 
 -- "v1p1 and P bit 6 are both 1": self-hosted EL3 branch recording is enabled (R_JWWFY).
 abbrev pub EL3Recorded : State → Bool
-EL3Recorded s = eqb (s .v1p1) 1 && EL3Recording s
+EL3Recorded s = eqb (s .v1p1) 1 && isSet 6 (s .p)
 
 -- Document 01, "Cycles": counting is on. Bit 3 (CC) of BRBCR_EL1 and of BRBCR_EL2, R_MJDLC.
 abbrev pub counting : State → Bool
@@ -86,7 +83,7 @@ abbrev pub afterReset : ℕ → ℕ → State
 afterReset size v1p1 =
     record { level = 3; size = size; v1p1 = v1p1; p = 0; brbcr1 = 0; brbcr2 = 0; brbfcr = 0; running = runningAfterReset }
 
--- A state with another level, another P, another running count.
+-- A state with another level, another P, other registers, another running count.
 abbrev pub atLevel : ℕ → State → State
 atLevel level s =
     record { level = level; size = s .size; v1p1 = s .v1p1; p = s .p; brbcr1 = s .brbcr1; brbcr2 = s .brbcr2; brbfcr = s .brbfcr; running = s .running }
@@ -94,6 +91,10 @@ atLevel level s =
 abbrev pub withPlatform : ℕ → State → State
 withPlatform p s =
     record { level = s .level; size = s .size; v1p1 = s .v1p1; p = p; brbcr1 = s .brbcr1; brbcr2 = s .brbcr2; brbfcr = s .brbfcr; running = s .running }
+
+abbrev pub withRegisters : ℕ → ℕ → ℕ → State → State
+withRegisters brbcr1 brbcr2 brbfcr s =
+    record { level = s .level; size = s .size; v1p1 = s .v1p1; p = s .p; brbcr1 = brbcr1; brbcr2 = brbcr2; brbfcr = brbfcr; running = s .running }
 
 abbrev pub withRunning : Running → State → State
 withRunning r s =

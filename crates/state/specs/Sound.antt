@@ -3,7 +3,6 @@ use Prim.Native.Nat.{ℕ}
 use mathlib.Core.Bool.{Bool, _&&_, _||_, not}
 use mathlib.Core.List.{_∷_}
 use lib.Dec.{leb, eqb}
-use lib.Bits.{bitAnd}
 use Rattle.bits.specs.Bits.{within, oneOf}
 use Rattle.state.specs.declared.State.{State}
 use Rattle.state.specs.Named.{TGE, EL2Enabled, sizes}
@@ -18,10 +17,6 @@ controlMask = 0xC0017B
 
 abbrev pub filterMask : ℕ
 filterMask = 0x307F0080
-
--- What a register holds after a write of the value.
-abbrev pub kept : ℕ → ℕ → ℕ
-kept mask value = bitAnd value mask
 
 -- "stops at 1,048,576"
 abbrev pub cap : ℕ

@@ -9,22 +9,11 @@ use Rattle.state.specs.declared.Loaded.{Loaded}
 use Rattle.state.specs.declared.Loaded.the-variants.{Held, Unsound}
 use Rattle.state.specs.Sound.{sound}
 
-abbrev pub stateNumbers : ℕ
-stateNumbers = 9
-
 -- The state that lent numbers hold.
 abbrev pub stateOf : List ℕ → State
 stateOf w =
-    record {
-      level = getD w 0 0;
-      size = getD w 1 0;
-      v1p1 = getD w 2 0;
-      p = getD w 3 0;
-      brbcr1 = getD w 4 0;
-      brbcr2 = getD w 5 0;
-      brbfcr = getD w 6 0;
-      running = record { count = getD w 7 0; unknown = getD w 8 0 };
-    }
+    let n : ℕ → ℕ = λ k. getD w k 0 in
+    record { level = n 0; size = n 1; v1p1 = n 2; p = n 3; brbcr1 = n 4; brbcr2 = n 5; brbfcr = n 6; running = record { count = n 7; unknown = n 8 } }
 
 abbrev pub wordsOf : State → List ℕ
 wordsOf s =
@@ -32,8 +21,8 @@ wordsOf s =
 
 -- Lent numbers once the state is stored: those past the needed ones are as they were. Too few are left alone.
 unfoldable pub stored : State → List ℕ → List ℕ
-stored s w = cond (leb stateNumbers (length w)) (wordsOf s ++ drop stateNumbers w) w
+stored s w = cond (leb 9 (length w)) (wordsOf s ++ drop 9 w) w
 
 -- The sound state that lent numbers hold. Refusal 7 is given exactly when they are too few or what they hold is not sound.
 unfoldable pub loaded : List ℕ → Loaded
-loaded w = cond (leb stateNumbers (length w) && sound (stateOf w)) (Held (stateOf w)) Unsound
+loaded w = cond (leb 9 (length w) && sound (stateOf w)) (Held (stateOf w)) Unsound

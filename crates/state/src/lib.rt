@@ -1,7 +1,7 @@
 // The state of the model (document 01, "Operations" and refusal 7).
 ghost use mathlib.Core.Path.{_≡_};
 ghost use mathlib.Core.Bool.{Bool};
-ghost use Rattle.state.specs.Named.{EL2Enabled, EL3Recorded, counting, predictionShown, PAUSED, BANK, afterReset, atLevel, withPlatform, withRunning};
+ghost use Rattle.state.specs.Named.{EL2Enabled, EL3Recorded, counting, predictionShown, PAUSED, BANK, fresh, afterReset, atLevel, withPlatform, withRegisters, withRunning};
 ghost use Rattle.state.specs.Sound.{closed, sound};
 ghost use Rattle.state.specs.Words.{stored, loaded};
 
@@ -121,6 +121,26 @@ impl State {
 }
 
 impl State {
+    // "A fresh state, before any reset, is all zeros."
+    pub fn fresh() -> State
+        ensures { λ r. ⌜ r ≡ fresh ⌝ }
+    {
+        let running = Running {
+            count: 0,
+            unknown: 0,
+        };
+        State {
+            level: 0,
+            size: 0,
+            v1p1: 0,
+            p: 0,
+            brbcr1: 0,
+            brbcr2: 0,
+            brbfcr: 0,
+            running,
+        }
+    }
+
     pub fn after_reset(size: u64, v1p1: u64) -> State
         ensures { λ r. ⌜ r ≡ afterReset size v1p1 ⌝ }
     {
@@ -128,16 +148,12 @@ impl State {
             count: 0,
             unknown: 1,
         };
-        State {
-            level: 3,
-            size,
-            v1p1,
-            p: 0,
-            brbcr1: 0,
-            brbcr2: 0,
-            brbfcr: 0,
-            running,
-        }
+        let mut s = State::fresh();
+        s.level = 3;
+        s.size = size;
+        s.v1p1 = v1p1;
+        s.running = running;
+        s
     }
 
     pub fn at_level(mut self, level: u64) -> State
@@ -151,6 +167,15 @@ impl State {
         ensures { λ r. ⌜ r ≡ withPlatform p self ⌝ }
     {
         self.p = p;
+        self
+    }
+
+    pub fn with_registers(mut self, brbcr1: u64, brbcr2: u64, brbfcr: u64) -> State
+        ensures { λ r. ⌜ r ≡ withRegisters brbcr1 brbcr2 brbfcr self ⌝ }
+    {
+        self.brbcr1 = brbcr1;
+        self.brbcr2 = brbcr2;
+        self.brbfcr = brbfcr;
         self
     }
 

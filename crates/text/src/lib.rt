@@ -2,8 +2,8 @@
 ghost use mathlib.Core.Path.{_≡_};
 ghost use Prim.Native.Nat.{_+_, _≤_, _<_};
 ghost use lib.ListN.{length};
-ghost use Rattle.number.specs.Number.{written};
-ghost use Rattle.text.specs.Text.{digit, digits, decimalCount, decimal, hexadecimal, writtenIf, countIf};
+ghost use Rattle.number.specs.Number.{written, writtenIf, countIf};
+ghost use Rattle.text.specs.Text.{digit, digits, decimalCount, decimal};
 
 // A text at a place that has room for it.
 fn put(out: &mut [u8], at: usize, text: &[u8])
@@ -96,8 +96,8 @@ pub fn write_decimal(out: &mut [u8], at: usize, n: u64) -> usize
 
 // The lowest `count` hexadecimal digits of n.
 pub fn write_hexadecimal(out: &mut [u8], at: usize, count: usize, n: u64) -> usize
-    ensures { λ r. ⌜ r ≡ countIf (now (out .entry)) at (hexadecimal count n) ⌝ }
-    ensures { λ _. ⌜ now (out .exit) ≡ writtenIf (now (out .entry)) at (hexadecimal count n) ⌝ }
+    ensures { λ r. ⌜ r ≡ countIf (now (out .entry)) at (digits 16 count n) ⌝ }
+    ensures { λ _. ⌜ now (out .exit) ≡ writtenIf (now (out .entry)) at (digits 16 count n) ⌝ }
 {
     write_digits(out, at, 16, count, n)
 }

@@ -5,4 +5,4 @@ use Rattle.access.proofs.register_written.Tie as tie
 
 pub register-written-spec : {M : Type 1} → statement M
 unfolding registerWritten
-register-written-spec = tie.close (tie.spec (λ _ _. tt) (λ _ _. tt) (λ _ _. tt) (λ c. cc))
+register-written-spec = tie.close (tie.spec (λ _ _. tt) (λ _ _. tt) (λ _ _. tt) (λ _ _. tt) (λ c. cc))

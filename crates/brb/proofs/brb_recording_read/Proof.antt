@@ -10,13 +10,19 @@ unfolding readLeaves
 brb-recording-read-spec =
     tie.close
     (tie.spec
-    (λ c. rw (lt-ltb _ _ (c .if1 .taken)))
+    (λ _ _. tt)
+    (λ c. rw (c .returned .ensures, lt-ltb _ _ (c .before .if1 .taken)))
+    (λ _ _. tt)
+    (λ c. search needs)
+    (λ _ _. tt)
     (λ _ _. tt)
     (λ c. search needs)
     (λ _ _. tt)
     (λ c. search needs)
+    (λ _ _. tt)
     (λ c. search needs)
-    (λ c. search needs)
-    (λ c. rw (le-ltb _ _ (c .before .before .before .before .before .before .before .before .if1 .left), ← c .before .before .before .before .before .before .before .operation-at .ensures, c .before .before .before .before .before .x .given .1, c .before .before .store-numbers .ensures))
-    (λ c. rw (le-ltb _ _ (c .before .before .before .if1 .left), ← c .before .before .operation-at .ensures, c .enum-told .given .1))
-    (λ c. rw (le-ltb _ _ (c .before .before .before .if1 .left), ← c .before .before .operation-at .ensures, c .enum-told2 .given .1)))
+    (λ c.
+    let x = c .before .before .before .before .before .before in
+    rw (c .returned2 .ensures, le-ltb _ _ (x .before .before .before .if1 .left), ← x .before .before .operation-at .ensures, x .x .given .1, c .before .before .before .store-numbers .ensures))
+    (λ c. rw (c .returned3 .ensures, le-ltb _ _ (c .before .before .before .before .if1 .left), ← c .before .before .before .operation-at .ensures, c .before .enum-told .given .1))
+    (λ c. rw (c .returned4 .ensures, le-ltb _ _ (c .before .before .before .before .if1 .left), ← c .before .before .before .operation-at .ensures, c .before .enum-told2 .given .1)))

@@ -11,4 +11,6 @@ brb-recording-write-spec =
     (λ _ _. tt)
     (λ _ _. tt)
     (λ c. search needs)
-    (λ c. (rw (c .before .number .ensures, c .value .ensures, c .before .before .before .before .write-operation .ensures .0), c .before .before .before .before .write-operation .ensures .1)))
+    (λ c.
+    let w = c .before .before .before in
+    (rw (← w .before .new .ensures, ← w .write-operation .ensures .0) (c .returned .ensures), rw (← w .before .new .ensures) (w .write-operation .ensures .1))))

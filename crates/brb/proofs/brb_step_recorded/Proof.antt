@@ -5,21 +5,21 @@ use borrow.Author.Needs.{needs}
 use mathlib.Core.Path.{_≡_, sym, ap, _∙_}
 use mathlib.Core.List.{List}
 use denote.Ref.{now}
+use Rattle.answer.specs.declared.Answer.{Answer}
 use Rattle.state.specs.declared.State.{State}
 use Rattle.state.specs.declared.Loaded.the-variants.{Held}
 use Rattle.state.specs.Words.{loaded}
 use Rattle.state.proofs.Laws.{held, kept}
-use Rattle.recorder.specs.Step.{numberOf, valueOf}
-use Rattle.recorder.specs.Lent.{Lent}
+use Rattle.recorder.specs.Left.{Left, leaves}
 use Rattle.recording.specs.Recording.{operationAt}
 use Rattle.recording.specs.RecordedStep.{stepOfReading, recordedStep}
-use Rattle.brb.specs.Recordings.{RecordedLeft, recordedLeft, ofRecorded, recordedLeaves}
+use Rattle.brb.specs.declared.BrbRecorded.{BrbRecorded}
+use Rattle.brb.specs.Recordings.{returnedAt, ofRecorded, recordedLeaves}
 use Rattle.brb.proofs.brb_step_recorded.Statement.{statement}
 use Rattle.brb.proofs.brb_step_recorded.Tie as tie
 
-abbrev asRecorded : ℕ → Lent → RecordedLeft
-asRecorded next r =
-    recordedLeft (record { number = numberOf (r .answer); value = valueOf (r .answer); next = next }) (r .state) (r .room)
+abbrev asRecorded : ℕ → Left Answer (List ℕ) → Left BrbRecorded (List ℕ)
+asRecorded next r = leaves (returnedAt (r .answer) next) (r .state) (r .room)
 
 -- Of a state that was loaded, the recorded step is that of what was read.
 of-held : (words room bytes : List ℕ) (at : ℕ) (s : State) → loaded words ≡ Held s
@@ -27,9 +27,21 @@ of-held : (words room bytes : List ℕ) (at : ℕ) (s : State) → loaded words 
 unfolding recordedLeaves recordedStep
 of-held words room bytes at s e = rw (e, held words s e .1)
 
+-- The same where the state was found to be sound, on the way to what was read.
+abbrev sound-state : tie.After-enum-told → State
+sound-state d = d .enum-told .given .0 .0
+
+loads : (d : tie.After-enum-told) → loaded (now (d .before .before .before .before .before .before .before .args .state)) ≡ Held (sound-state d)
+loads d = sym (d .before .before .load .ensures) ∙ d .enum-told .given .1
+
+goes-on : (d : tie.After-enum-told)
+    → (let a = d .before .before .before .before .before .before .before .args in recordedLeaves (now (a .state)) (now (a .room)) (now (a .bytes)) (a .at)
+    ≡ ofRecorded (now (a .state)) (stepOfReading (sound-state d) (now (a .room)) (operationAt (now (a .bytes)) (a .at))))
+goes-on d = let a = d .before .before .before .before .before .before .before .args in of-held (now (a .state)) (now (a .room)) (now (a .bytes)) (a .at) (sound-state d) (loads d)
+
 unsound : tie.Need-returns
 unfolding recordedLeaves
-unsound c = rw (← c .before .before .load .ensures, c .enum-told2 .given .1)
+unsound c = rw (c .returned-at .ensures, ← c .before .before .before .load .ensures, c .before .enum-told2 .given .1)
 
 pub brb-step-recorded-spec : {M : Type 1} → statement M
 brb-step-recorded-spec =
@@ -38,6 +50,7 @@ brb-step-recorded-spec =
     (λ _ _. tt)
     (λ c. search needs)
     (λ c. search needs)
+    (λ _ _. tt)
     (λ c. search needs)
     unsound
     (λ _ _. tt)
@@ -45,27 +58,23 @@ brb-step-recorded-spec =
     (λ _ _. tt)
     (λ _ _. tt)
     (λ _ _. tt)
+    (λ c. search needs)
+    (λ _ _. tt)
+    (λ c. search needs)
     (λ _ _. tt)
     (λ c. search needs)
     (λ c. search needs)
-    (λ c. search needs)
+    (λ c.
+    let l = c .before .before .before .before .before in
+    let x = l .before .before .before .before .before in
+    let d = x .before .before .before in
+    rw (c .returned-at2 .ensures, goes-on d, ← x .before .before .operation-at .ensures, x .x .given .1, ← l .before .before .before .operation-of .ensures)
+    (ap (asRecorded _) (rw (loads d) at (l .lent-step .ensures))))
     (λ c. search needs)
     (λ c.
-    let d = c .before .before .before .before .before .before .before .before .before .before .before .before .before .before in
-    let a = d .before .before .before .before .before .before .before .args in
-    let e = sym (d .before .before .load .ensures) ∙ d .enum-told .given .1 in
-    let step = rw e at (c .before .before .before .before .before .before .lent-step .ensures) in
-    rw (c .before .number .ensures, c .value .ensures, of-held (now (a .state)) (now (a .room)) (now (a .bytes)) (a .at) _ e, ← c .before .before .before .before .before .before .before .before .before .before .before .before .before .operation-at .ensures, c .before .before .before .before .before .before .before .before .before .before .before .x .given .1, ← c .before .before .before .before .before .before .before .before .before .operation-of .ensures)
-    (ap (asRecorded _) step))
+    let d = c .before .before .before .before .before in
+    rw (c .returned-at3 .ensures, goes-on d, ← c .before .before .before .before .operation-at .ensures, c .before .before .place .given .1, kept _ _ (loads d)))
     (λ c. search needs)
     (λ c.
-    let d = c .before .before .before .before in
-    let a = d .before .before .before .before .before .before .before .args in
-    let e = sym (d .before .before .load .ensures) ∙ d .enum-told .given .1 in
-    rw (of-held (now (a .state)) (now (a .room)) (now (a .bytes)) (a .at) _ e, ← c .before .before .before .operation-at .ensures, c .before .place .given .1, kept (now (a .state)) _ e))
-    (λ c. search needs)
-    (λ c.
-    let d = c .before .before .before .before in
-    let a = d .before .before .before .before .before .before .before .args in
-    let e = sym (d .before .before .load .ensures) ∙ d .enum-told .given .1 in
-    rw (of-held (now (a .state)) (now (a .room)) (now (a .bytes)) (a .at) _ e, ← c .before .before .before .operation-at .ensures, c .before .place2 .given .1, kept (now (a .state)) _ e)))
+    let d = c .before .before .before .before .before in
+    rw (c .returned-at4 .ensures, goes-on d, ← c .before .before .before .before .operation-at .ensures, c .before .before .place2 .given .1, kept _ _ (loads d))))

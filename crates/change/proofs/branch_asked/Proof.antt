@@ -9,4 +9,5 @@ branch-asked-spec =
     tie.close
     (tie.spec
     (λ _ _. tt)
+    (λ _ _. tt)
     (λ c. cc))

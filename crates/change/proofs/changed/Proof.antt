@@ -1,6 +1,6 @@
 -- The state that an operation has changed, as defined: each arm knows its operation.
 use borrow.Author.Needs.{needs}
-use Rattle.change.specs.Change.{changed}
+use Rattle.operation.specs.Changed.{changed}
 use Rattle.change.proofs.changed.Statement.{statement}
 use Rattle.change.proofs.changed.Tie as tie
 

@@ -8,5 +8,5 @@ iall-effect-spec =
     (tie.spec
     (λ _ _. tt)
     (λ _ _. tt)
-    (λ c. rw (← c .before .before .iall-outcome .ensures, ← c .before .is-performed .ensures, c .if1 .taken))
-    (λ c. rw (← c .before .before .iall-outcome .ensures, ← c .before .is-performed .ensures, c .if1 .left)))
+    (λ c. rw (← c .before .before .iall-outcome .ensures, ← c .before .is-done .ensures, c .if1 .taken))
+    (λ c. rw (← c .before .before .iall-outcome .ensures, ← c .before .is-done .ensures, c .if1 .left)))

@@ -9,4 +9,5 @@ return-asked-spec =
     tie.close
     (tie.spec
     (λ _ _. tt)
+    (λ _ _. tt)
     (λ c. cc))

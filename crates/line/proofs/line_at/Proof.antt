@@ -6,9 +6,9 @@ use mathlib.Core.List.{List}
 use native.Mathlib.Omega.{arith}
 use lib.ListN.{length}
 use denote.Ref.{now}
-use Rattle.text.specs.Text.{bytesOfText, writtenIf, countIf}
-use Rattle.text.proofs.Laws.{wrote, written-nothing}
-use Rattle.number.specs.Number.{written}
+use Rattle.text.specs.Text.{bytesOfText}
+use Rattle.number.proofs.Written.{wrote, written-nothing}
+use Rattle.number.specs.Number.{written, writtenIf, countIf}
 use Rattle.line.specs.Line.{lineOf}
 use Rattle.line.proofs.line_at.Statement.{statement}
 use Rattle.line.proofs.line_at.Tie as tie

@@ -6,8 +6,9 @@ use native.Mathlib.Omega.{arith}
 use lib.ListN.{length-append}
 use denote.Ref.{now}
 use Rattle.text.specs.Text.{bytesOfText, decimal}
-use Rattle.text.proofs.Laws.{length-decimal, Wrote, wrote, wrote-more}
-use Rattle.recorder.specs.declared.Answer.the-variants.{Refused}
+use Rattle.number.proofs.Written.{Wrote, wrote, wrote-more}
+use Rattle.text.proofs.Laws.{length-decimal}
+use Rattle.answer.specs.declared.Answer.the-variants.{Refused}
 use Rattle.line.specs.Line.{lineOf}
 use Rattle.line.proofs.Laws.{length-line}
 use Rattle.line.proofs.refused_line.Statement.{statement}

@@ -4,9 +4,10 @@ use borrow.Author.Needs.{needs}
 use mathlib.Core.List.{[], _∷_}
 use native.Mathlib.Omega.{arith}
 use denote.Ref.{now}
-use Rattle.text.specs.Text.{hexadecimal}
-use Rattle.text.proofs.Laws.{length-hexadecimal, Wrote, wrote, wrote-more}
-use Rattle.recorder.specs.declared.Answer.the-variants.{Value}
+use Rattle.text.specs.Text.{digits}
+use Rattle.number.proofs.Written.{Wrote, wrote, wrote-more}
+use Rattle.text.proofs.Laws.{length-digits}
+use Rattle.answer.specs.declared.Answer.the-variants.{Value}
 use Rattle.line.specs.Line.{lineOf}
 use Rattle.line.proofs.Laws.{length-line}
 use Rattle.line.proofs.value_line.Statement.{statement}
@@ -15,12 +16,12 @@ use Rattle.line.proofs.value_line.Tie as tie
 abbrev Digits : tie.After-write-hexadecimal → Type 0
 Digits c =
     let a = c .before .before .before .args in
-    Wrote (now (a .out)) (a .at) (hexadecimal 16 (a .v)) (c .write-hexadecimal .result) (c .write-hexadecimal .last .0)
+    Wrote (now (a .out)) (a .at) (digits 16 16 (a .v)) (c .write-hexadecimal .result) (c .write-hexadecimal .last .0)
 
-digits : (c : tie.After-write-hexadecimal) → Digits c
-digits c =
+shown : (c : tie.After-write-hexadecimal) → Digits c
+shown c =
     let a = c .before .before .before .args in
-    wrote (now (a .out)) (a .at) (hexadecimal 16 (a .v)) (omega (arith, length-hexadecimal 16 (a .v))) (c .write-hexadecimal .ensures .0)
+    wrote (now (a .out)) (a .at) (digits 16 16 (a .v)) (omega (arith, length-digits 16 16 (a .v))) (c .write-hexadecimal .ensures .0)
     (c .write-hexadecimal .ensures .1)
 
 abbrev Line : tie.After-write-text → Type 0
@@ -34,14 +35,14 @@ unfolding lineOf
 line c =
     let d = c .before .before .before .before .before in
     let a = d .before .before .before .args in
-    wrote-more (10 ∷ []) (digits d) (omega (arith, length-hexadecimal 16 (a .v))) (c .write-text .ensures .0) (c .write-text .ensures .1)
+    wrote-more (10 ∷ []) (shown d) (omega (arith, length-digits 16 16 (a .v))) (c .write-text .ensures .0) (c .write-text .ensures .1)
 
 pub value-line-spec : {M : Type 1} → statement M
 value-line-spec =
     tie.close
     (tie.spec
     (λ _ _. tt)
-    (λ c. let d = digits (c .before .before .before) in omega (arith, d .counted, length-hexadecimal 16 (c .before .before .before .before .before .before .args .v)))
+    (λ c. let d = shown (c .before .before .before) in omega (arith, d .counted, length-digits 16 16 (c .before .before .before .before .before .before .args .v)))
     (λ c. search needs)
     (λ _ _. tt)
     (λ c. let l = line (c .before .before) in omega (arith, l .counted, length-line (Value (c .before .before .before .before .before .before .before .before .before .before .args .v))))

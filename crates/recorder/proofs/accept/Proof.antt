@@ -1,11 +1,11 @@
 -- An accepted operation, as defined: what each callee decides is put in, and the room is what `apply` leaves.
 use borrow.Author.Needs.{needs}
-use Rattle.recorder.specs.Step.{acceptedWith, accepted}
+use Rattle.recorder.specs.Step.{accepted}
 use Rattle.recorder.proofs.accept.Statement.{statement}
 use Rattle.recorder.proofs.accept.Tie as tie
 
 pub accept-spec : {M : Type 1} → statement M
-unfolding acceptedWith accepted
+unfolding accepted
 accept-spec =
     tie.close
     (tie.spec

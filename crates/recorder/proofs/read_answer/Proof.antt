@@ -1,4 +1,4 @@
--- What a read answers, as defined.
+-- What a read answers, as defined: how it ended decides.
 use Rattle.recorder.specs.Step.{answerOf}
 use Rattle.recorder.proofs.read_answer.Statement.{statement}
 use Rattle.recorder.proofs.read_answer.Tie as tie
@@ -12,4 +12,7 @@ read-answer-spec =
     (λ _ _. tt)
     (λ _ _. tt)
     (λ _ _. tt)
-    (λ c. cc))
+    (λ c.
+    let ended = c .before .before .before in
+    rw (← ended .before .read-outcome .ensures, ← ended .is-done .ensures, c .before .before .if1 .taken, ← c .before .meant .ensures, c .register-value .ensures))
+    (λ c. rw (← c .before .before .read-outcome .ensures, ← c .before .is-done .ensures, c .if1 .left)))

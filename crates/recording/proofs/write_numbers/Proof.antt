@@ -21,23 +21,25 @@ Inv-loop out₀ at count list place₀ i₀ out place i =
 abbrev μ-loop : tie.MeasureT-loop
 μ-loop out₀ at count list place₀ i₀ out place i = count - i
 
-add-place : tie.Need-add-place Inv-loop μ-loop
-add-place c =
-    let l = c .before .before .before .before .before .loop in
-    let a = c .before .before .before .before .before .before .before .args in
-    let w = c .before .before .write-number in
+-- The next one was written: the others still have room, and written behind it they make what was to be written before.
+next : (c : tie.After-write-number Inv-loop μ-loop)
+    → (let l = c .before .before .before .loop in
+    let a = c .before .before .before .before .before .args in
+    let rest = bytesOfAll (slice (l .i + 1) (a .count) (a .t3)) in
+    let after = c .write-number .last .0 in
+    let place = l .place + c .write-number .result in
+    (place + length rest ≤ length (l .out)) × (written after place rest ≡ written (l .out) (l .place) (bytesOfAll (slice (l .i) (a .count) (a .t3)))))
+next c =
+    let l = c .before .before .before .loop in
+    let a = c .before .before .before .before .before .args in
+    let w = c .write-number in
     let six : length (a .t3) ≡ 6 = search needs in
-    let next = next-written (a .t3) (l .i) (a .count) (omega arith) (omega arith) (l .out) (l .place) (w .result) (w .last .0) (omega arith) (w .ensures .0) (w .ensures .1) in
-    omega arith
+    next-written (a .t3) (l .i) (a .count) (omega arith) (omega arith) (l .out) (l .place) (w .result) (w .last .0) (omega arith) (w .ensures .0) (w .ensures .1)
 
 loop-again : tie.Need-loop-again Inv-loop μ-loop
 loop-again c =
-    let l = c .before .before .before .before .before .loop in
-    let a = c .before .before .before .before .before .before .before .args in
-    let w = c .before .before .write-number in
-    let six : length (a .t3) ≡ 6 = search needs in
-    let next = next-written (a .t3) (l .i) (a .count) (omega arith) (omega arith) (l .out) (l .place) (w .result) (w .last .0) (omega arith) (w .ensures .0) (w .ensures .1) in
-    (omega arith, omega arith, omega arith, next .1 ∙ l .inv .3)
+    let (room, content) = next (c .before .before) in
+    (omega arith, omega arith, omega arith, content ∙ c .before .before .before .before .before .loop .inv .3)
 
 returns : tie.Need-returns Inv-loop μ-loop
 unfolding bytesOfAll
@@ -58,7 +60,7 @@ write-numbers-spec =
     (λ c. search needs)
     (λ c. search needs)
     (λ _ _. tt)
-    add-place
+    (λ c. let n = next (c .before .before) in omega arith)
     (λ c. search needs)
     (λ c. search needs)
     loop-again

@@ -29,7 +29,7 @@ unfolding writeRefusal writingOf writtenOperation
 returns-2 c =
     let a = c .before .before .before .before .before .before .args in
     let n = c .before .before .field-count in
-    let own = ap length (own-bytes (a .x) (n .result) (n .ensures)) in
+    let own = ap length (own-bytes (a .x) (n .result) (n .ensures .0)) in
     let known = le-ltb 7 (a .x .code) (omega arith) in
     let short = lt-ltb (length (now (a .out))) (a .at + length (operationBytes (a .x))) (omega arith) in
     (rw (known, short), rw (known, short))
@@ -39,7 +39,7 @@ unfolding writeRefusal writingOf writtenOperation
 returns-3 c =
     let a = c .before .before .before .before .before .before .before .args in
     let n = c .before .before .before .field-count in
-    let own = ap length (own-bytes (a .x) (n .result) (n .ensures)) in
+    let own = ap length (own-bytes (a .x) (n .result) (n .ensures .0)) in
     let known = le-ltb 7 (a .x .code) (omega arith) in
     let short = lt-ltb (length (now (a .out))) (a .at + length (operationBytes (a .x))) (omega arith) in
     (rw (known, short), rw (known, short))
@@ -51,7 +51,7 @@ returns-4 c =
     let l = w .before .before .before .before in
     let a = l .before .before .before .before .before .args in
     let n = l .before .field-count in
-    let own = own-bytes (a .x) (n .result) (n .ensures) in
+    let own = own-bytes (a .x) (n .result) (n .ensures .0) in
     let size = ap length own in
     let known = le-ltb 7 (a .x .code) (omega arith) in
     let room = le-ltb (length (now (a .out))) (a .at + length (operationBytes (a .x))) (omega arith) in
@@ -62,8 +62,7 @@ write-operation-spec =
     tie.close
     (tie.spec
     returns
-    (λ c κs. search needs)
-    (λ c. search needs)
+    (λ _ _. tt)
     (λ c. search needs)
     (λ c κs. omega (arith, fields-at-most (c .before .before .before .before .args .x .code)))
     returns-2

@@ -4,7 +4,8 @@ use mathlib.Core.Path.{_∙_, sym}
 use native.Mathlib.Omega.{arith}
 use denote.Ref.{now}
 use Rattle.text.specs.Text.{digits}
-use Rattle.text.proofs.Laws.{length-digits, no-room, room}
+use Rattle.number.proofs.Written.{no-room, room}
+use Rattle.text.proofs.Laws.{length-digits}
 use Rattle.text.proofs.write_digits.Statement.{statement}
 use Rattle.text.proofs.write_digits.Tie as tie
 
