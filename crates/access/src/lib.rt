@@ -2,7 +2,7 @@
 ghost use mathlib.Core.Path.{_≡_};
 ghost use mathlib.Core.Bool.{true, false};
 ghost use Rattle.room.specs.Room.{records};
-ghost use Rattle.access.specs.Access.{permitted, trapped2, trapped3, outcome, readOutcome, writeOutcome, iallOutcome, meant, shownNumber, registerValue, registerWritten};
+ghost use Rattle.access.specs.Access.{isRecordRegister, isRegister, permitted, trapped2, trapped3, outcome, readOutcome, writeOutcome, iallOutcome, meant, shownNumber, registerValue, registerWritten};
 use answer::Answer;
 use bits::pick;
 use bits::pick_bool;
@@ -30,6 +30,20 @@ const NBRBIDR: u64 = 0x1000;
 
 const NBRBIALL: u64 = 0x2000;
 
+// A register of a record: BRBINF, BRBSRC or BRBTGT.
+fn is_record_register(r: u64) -> bool
+    ensures { λ x. ⌜ x ≡ isRecordRegister r ⌝ }
+{
+    (32 <= r) & (r <= 127)
+}
+
+pub fn is_register(r: u64) -> bool
+    ensures { λ x. ⌜ x ≡ isRegister r ⌝ }
+{
+    let record = is_record_register(r);
+    (r <= 3) | record
+}
+
 // The bit of P that permits an access to the register at EL1.
 fn permitted(s: State, writing: bool, r: u64) -> bool
     ensures { λ x. ⌜ x ≡ permitted s writing r ⌝ }
@@ -40,7 +54,7 @@ fn permitted(s: State, writing: bool, r: u64) -> bool
         s.p / NBRBCTL_READ % 2 == 1,
     );
     let setting = pick_bool(r == 0, s.p / NBRBIDR % 2 == 1, control);
-    pick_bool((32 <= r) & (r <= 127), s.p / NBRBDATA % 2 == 1, setting)
+    pick_bool(is_record_register(r), s.p / NBRBDATA % 2 == 1, setting)
 }
 
 fn trapped2(s: State, nbit: bool) -> bool
@@ -86,7 +100,8 @@ pub fn write_outcome(s: State, r: u64) -> Answer
     ensures { λ x. ⌜ x ≡ writeOutcome s r ⌝ }
 {
     let nbit = permitted(s, true, r);
-    let undefined = (r == 0) | (32 <= r) & (r <= 127) | (s.level == 1) & (r == 2);
+    let record = is_record_register(r);
+    let undefined = (r == 0) | record | (s.level == 1) & (r == 2);
     access_outcome(s, undefined, nbit)
 }
 

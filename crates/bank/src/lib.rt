@@ -8,6 +8,7 @@ ghost use Rattle.bank.specs.Bank.{bankRefusal, bankStart, shownFrom, ban
 use answer::Answer;
 use room::Record;
 use room::record_at;
+use state::is_size;
 
 // How many records a bank shows.
 const BANKED: u64 = 32;
@@ -23,19 +24,14 @@ pub struct BankView<'a> {
 fn record_from(records: &[u64], size: u64, start: u64, m: u64) -> Record
     ensures { λ r. ⌜ r ≡ shownFrom size start m (now (records .entry)) ⌝ }
 {
-    let none = Record {
-        inf: 0,
-        source: 0,
-        target: 0,
-    };
     if BANKED <= m {
-        return none;
+        return Record::zero();
     }
     if size <= start {
-        return none;
+        return Record::zero();
     }
     if size - start <= m {
-        return none;
+        return Record::zero();
     }
     record_at(records, size, m + start)
 }
@@ -117,7 +113,7 @@ fn target_viewed(room: &[u64], size: u64, start: u64, m: u64) -> u64
 fn refusal(room: &[u64], size: u64, bank: u64, m: u64) -> u64
     ensures { λ r. ⌜ r ≡ bankRefusal size bank m (now (room .entry)) ⌝ }
 {
-    let listed = (size == 64) | (size == 32) | (size == 16) | (size == 8);
+    let listed = is_size(size);
     if !listed | (3 < bank) | (31 < m) {
         return 4;
     }

@@ -4,10 +4,12 @@ ghost use mathlib.Core.List.{[], _∷_};
 ghost use Rattle.operation.specs.Operation.{operationOf, codeOf};
 ghost use Rattle.operation.specs.Changed.{changed};
 ghost use Rattle.operation.specs.Refusal.{unknownCode, notReset, outsideList, notPermitted, roomTooShort, firstThat, refusalOf};
+use access::is_register;
 use filter::BranchType;
 use filter::is_exception_type;
 use state::PLATFORM_MASK;
 use state::State;
+use state::is_size;
 
 // One operation, with the fields of document 01's table. Fields are numbers as handed in: refusal 4 judges them.
 // (`kind` is the document's type; that word is the language's own.)
@@ -106,9 +108,7 @@ fn outside_list(o: Operation) -> bool
     ensures { λ r. ⌜ r ≡ outsideList o ⌝ }
 {
     match o {
-        Operation::Reset { size, v1p1 } => {
-            !((size == 64) | (size == 32) | (size == 16) | (size == 8)) | (1 < v1p1)
-        }
+        Operation::Reset { size, v1p1 } => !is_size(size) | (1 < v1p1),
         Operation::Branch {
             kind,
             mispredicted,
@@ -128,10 +128,8 @@ fn outside_list(o: Operation) -> bool
             ..
         } => { (3 < target_level) | (1 < mispredicted) }
         Operation::Platform { p } => !(p & PLATFORM_MASK == p),
-        Operation::Read { register } => !((register <= 3) | (32 <= register) & (register <= 127)),
-        Operation::Write { register, .. } => {
-            !((register <= 3) | (32 <= register) & (register <= 127))
-        }
+        Operation::Read { register } => !is_register(register),
+        Operation::Write { register, .. } => !is_register(register),
         Operation::Iall => false,
         Operation::Unknown => false,
     }

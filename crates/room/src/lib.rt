@@ -3,13 +3,25 @@ ghost use mathlib.Core.Path.{_≡_};
 ghost use mathlib.Core.List.{_++_};
 ghost use Prim.Native.Nat.{_+_, _≤_};
 ghost use lib.ListN.{length, getD, take, drop};
-ghost use Rattle.room.specs.Room.{records, numbered, pushed, cleared, roomAfter};
+ghost use Rattle.room.specs.Room.{zeroRecord, records, numbered, pushed, cleared, roomAfter};
 
 // One branch record: BRBINF, BRBSRC and BRBTGT.
 pub struct Record {
     pub inf: u64,
     pub source: u64,
     pub target: u64,
+}
+
+impl Record {
+    pub fn zero() -> Record
+        ensures { λ r. ⌜ r ≡ zeroRecord ⌝ }
+    {
+        Record {
+            inf: 0,
+            source: 0,
+            target: 0,
+        }
+    }
 }
 
 // What an accepted operation does to the records.
@@ -95,17 +107,12 @@ fn number_at(room: &[u64], place: usize) -> u64
 pub fn record_at(room: &[u64], size: u64, r: u64) -> Record
     ensures { λ result. ⌜ result ≡ numbered r (records size (now (room .entry))) ⌝ }
 {
-    let none = Record {
-        inf: 0,
-        source: 0,
-        target: 0,
-    };
     let number = r as usize;
     if size <= r {
-        return none;
+        return Record::zero();
     }
     if room.len() < number {
-        return none;
+        return Record::zero();
     }
     let place = 3 * number;
     Record {

@@ -1,7 +1,8 @@
 // The state of the model (document 01, "Operations" and refusal 7).
 ghost use mathlib.Core.Path.{_≡_};
 ghost use mathlib.Core.Bool.{Bool};
-ghost use Rattle.state.specs.Named.{EL2Enabled, EL3Recorded, counting, predictionShown, PAUSED, BANK, fresh, afterReset, atLevel, withPlatform, withRegisters, withRunning};
+ghost use Rattle.bits.specs.Bits.{oneOf};
+ghost use Rattle.state.specs.Named.{EL2Enabled, EL3Recorded, counting, predictionShown, PAUSED, BANK, sizes, fresh, afterReset, atLevel, withPlatform, withRegisters, withRunning};
 ghost use Rattle.state.specs.Sound.{closed, sound};
 ghost use Rattle.state.specs.Words.{stored, loaded};
 
@@ -56,6 +57,13 @@ pub struct State {
     pub running: Running,
 }
 
+// "A reset's size is 8, 16, 32 or 64."
+pub fn is_size(size: u64) -> bool
+    ensures { λ r. ⌜ r ≡ oneOf sizes size ⌝ }
+{
+    (size == 64) | (size == 32) | (size == 16) | (size == 8)
+}
+
 impl State {
     pub fn el2_enabled(self) -> bool
         ensures { λ r. ⌜ r ≡ EL2Enabled self ⌝ }
@@ -108,8 +116,9 @@ impl State {
     {
         let size = self.size;
         let running = self.running;
+        let sized = is_size(size);
         let listed = (self.level <= 3)
-            & ((size == 64) | (size == 32) | (size == 16) | (size == 8) | (size == 0))
+            & (sized | (size == 0))
             & (self.v1p1 <= 1)
             & (self.p & PLATFORM_MASK == self.p)
             & (self.brbcr1 & CONTROL_MASK == self.brbcr1)

@@ -5,4 +5,4 @@ use Rattle.access.proofs.permitted.Tie as tie
 
 pub permitted-spec : {M : Type 1} → statement M
 unfolding permitted
-permitted-spec = tie.close (tie.spec (λ _ _. tt) (λ _ _. tt) (λ _ _. tt) (λ c. cc))
+permitted-spec = tie.close (tie.spec (λ _ _. tt) (λ _ _. tt) (λ _ _. tt) (λ _ _. tt) (λ c. cc))

@@ -5,4 +5,4 @@ use Rattle.access.proofs.write_outcome.Tie as tie
 
 pub write-outcome-spec : {M : Type 1} → statement M
 unfolding writeOutcome
-write-outcome-spec = tie.close (tie.spec (λ _ _. tt) (λ _ _. tt) (λ c. cc))
+write-outcome-spec = tie.close (tie.spec (λ _ _. tt) (λ _ _. tt) (λ _ _. tt) (λ c. cc))

@@ -11,10 +11,11 @@ unfolding bankRefusal
 refusal-spec =
     tie.close
     (tie.spec
-    (λ c. rw (c .if1 .taken))
+    (λ _ _. tt)
+    (λ c. rw (← c .before .is-size .ensures, c .if1 .taken))
     (λ c.
-    let a = c .before .before .args in
-    rw (c .before .if1 .left, ← third-below (length (a .room .now)) (a .size), lt-ltb _ _ (c .if2 .taken)))
+    let a = c .before .before .before .before .args in
+    rw (← c .before .before .is-size .ensures, c .before .if1 .left, ← third-below (length (a .room .now)) (a .size), lt-ltb _ _ (c .if2 .taken)))
     (λ c.
-    let a = c .before .before .args in
-    rw (c .before .if1 .left, ← third-below (length (a .room .now)) (a .size), le-ltb _ _ (c .if2 .left))))
+    let a = c .before .before .before .before .args in
+    rw (← c .before .before .is-size .ensures, c .before .if1 .left, ← third-below (length (a .room .now)) (a .size), le-ltb _ _ (c .if2 .left))))

@@ -10,17 +10,18 @@ use Rattle.room.proofs.record_at.Tie as tie
 
 returns : tie.Need-returns
 returns c =
-    let a = c .before .before .args in
-    rw (record-number (a .size) (a .r) (a .room .now), le-ltb (a .r) (a .size) (omega arith))
+    let a = c .before .before .before .args in
+    rw (c .zero .ensures, record-number (a .size) (a .r) (a .room .now), le-ltb (a .r) (a .size) (omega arith))
 
 returns-2 : tie.Need-returns-2
 returns-2 c =
-    let a = c .before .before .before .args in
+    let a = c .before .before .before .before .args in
     let room = a .room .now in
     let none : length room ≤ 3 * a .r = omega arith in
     let none1 : length room ≤ 3 * a .r + 1 = omega arith in
     let none2 : length room ≤ 3 * a .r + 2 = omega arith in
     rw (
+      c .zero2 .ensures,
       record-number (a .size) (a .r) room,
       lt-ltb (a .r) (a .size) (omega arith),
       List·getD-eq-default room 0 none,
@@ -43,7 +44,9 @@ pub record-at-spec : {M : Type 1} → statement M
 record-at-spec =
     tie.close
     (tie.spec
+    (λ _ _. tt)
     returns
+    (λ _ _. tt)
     returns-2
     (λ c. search needs)
     (λ _ _. tt)
