@@ -9,9 +9,9 @@ use Rattle.bits.proofs.Cases.{below-or-not}
 use Rattle.text.proofs.Laws.{length-digits, length-decimal}
 use Rattle.answer.specs.declared.Answer.{Answer}
 use Rattle.answer.specs.declared.Answer.the-variants.{Done, Value, Undefined, Trap2, Trap3, Refused}
-use Rattle.line.specs.Line.{lineOf, longestLine, lineCount}
+use Rattle.line.specs.Line.{lineOf, lineCount}
 
-pub length-line : (answer : Answer) → length (lineOf answer) ≤ longestLine
+pub length-line : (answer : Answer) → length (lineOf answer) ≤ 32
 unfolding lineOf
 length-line Done = omega arith
 length-line (Value v) = simp length-append (omega (arith, length-digits 16 16 v))
@@ -24,6 +24,6 @@ length-line (Refused n) = simp length-append (omega (arith, length-decimal n))
 pub used-within : (out : List ℕ) (used : ℕ) (answer : Answer) → used + lineCount out used answer ≤ max used (length out)
 unfolding lineCount
 used-within out used answer =
-    ⊎-elim (λ (h : length out < used + longestLine). rw (lt-leb (used + longestLine) (length out) h) (omega arith))
-    (λ (h : used + longestLine ≤ length out). rw (le-leb (used + longestLine) (length out) h) (omega (arith, length-line answer)))
-    (below-or-not (length out) (used + longestLine))
+    ⊎-elim (λ (h : length out < used + 32). rw (lt-leb (used + 32) (length out) h) (omega arith))
+    (λ (h : used + 32 ≤ length out). rw (le-leb (used + 32) (length out) h) (omega (arith, length-line answer)))
+    (below-or-not (length out) (used + 32))

@@ -22,17 +22,13 @@ lineOf Trap2 = bytesOfText "trap2\n"
 lineOf Trap3 = bytesOfText "trap3\n"
 lineOf (Refused n) = bytesOfText "refused " ++ decimal n ++ bytesOfText "\n"
 
--- A line has at most this many bytes, its end included.
-abbrev pub longestLine : ℕ
-longestLine = 32
-
--- Lent bytes with an answer's line at a place, and the line's length; where there is no room for the longest line, nothing is
--- written.
+-- Lent bytes with an answer's line at a place, and the line's length. A line has at most 32 bytes; where so many have no room,
+-- nothing is written.
 unfoldable pub lineWritten : List ℕ → ℕ → Answer → List ℕ
-lineWritten out at answer = cond (leb (at + longestLine) (length out)) (written out at (lineOf answer)) out
+lineWritten out at answer = cond (leb (at + 32) (length out)) (written out at (lineOf answer)) out
 
 unfoldable pub lineCount : List ℕ → ℕ → Answer → ℕ
-lineCount out at answer = cond (leb (at + longestLine) (length out)) (length (lineOf answer)) 0
+lineCount out at answer = cond (leb (at + 32) (length out)) (length (lineOf answer)) 0
 
 -- What a replay prints from a state, a room and a place on, of at most k operations: "Operations one after another to the
 -- end of input." At the end no operation begins, and there is no line.

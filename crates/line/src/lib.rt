@@ -3,8 +3,9 @@ ghost use mathlib.Core.Path.{_≡_};
 ghost use Prim.Native.Nat.{_+_, _≤_};
 ghost use lib.ListN.{length};
 ghost use Rattle.number.specs.Number.{written};
-ghost use Rattle.line.specs.Turn.{turned, turnOf};
-ghost use Rattle.line.specs.Line.{lineOf, longestLine, lineWritten, lineCount};
+ghost use Rattle.recording.specs.RecordedStep.{recordedStep};
+ghost use Rattle.line.specs.Turn.{turnOf};
+ghost use Rattle.line.specs.Line.{lineOf, lineWritten, lineCount};
 use answer::Answer;
 use recording::recorded_step;
 use recording::stops_reading;
@@ -18,7 +19,7 @@ pub const LONGEST_LINE: usize = 32;
 
 // The line of a read.
 fn value_line(out: &mut [u8], at: usize, v: u64) -> usize
-    requires { ⌜ at + longestLine ≤ length (now out) ⌝ }
+    requires { ⌜ at + 32 ≤ length (now out) ⌝ }
     ensures { λ r. ⌜ r ≡ length (lineOf (Answer.Value v)) ⌝ }
     ensures { λ _. ⌜ now (out .exit) ≡ written (now (out .entry)) at (lineOf (Answer.Value v)) ⌝ }
 {
@@ -28,7 +29,7 @@ fn value_line(out: &mut [u8], at: usize, v: u64) -> usize
 
 // The line of a refusal.
 fn refused_line(out: &mut [u8], at: usize, n: u64) -> usize
-    requires { ⌜ at + longestLine ≤ length (now out) ⌝ }
+    requires { ⌜ at + 32 ≤ length (now out) ⌝ }
     ensures { λ r. ⌜ r ≡ length (lineOf (Answer.Refused n)) ⌝ }
     ensures { λ _. ⌜ now (out .exit) ≡ written (now (out .entry)) at (lineOf (Answer.Refused n)) ⌝ }
 {
@@ -39,7 +40,7 @@ fn refused_line(out: &mut [u8], at: usize, n: u64) -> usize
 
 // The line of an answer, where there is room for the longest.
 fn line_at(out: &mut [u8], at: usize, answer: Answer) -> usize
-    requires { ⌜ at + longestLine ≤ length (now out) ⌝ }
+    requires { ⌜ at + 32 ≤ length (now out) ⌝ }
     ensures { λ r. ⌜ r ≡ length (lineOf answer) ⌝ }
     ensures { λ _. ⌜ now (out .exit) ≡ written (now (out .entry)) at (lineOf answer) ⌝ }
 {
@@ -87,7 +88,9 @@ pub fn replay_one(
     out: &mut [u8],
     used: usize,
 ) -> Turn
-    ensures { λ r. ⌜ turned r (now (room .exit)) (now (out .exit)) ≡ turnOf s (now (room .entry)) (now (bytes .entry)) at (now (out .entry)) used ⌝ }
+    ensures { λ r. ⌜ r ≡ turnOf s (now (room .entry)) (now (bytes .entry)) at (now (out .entry)) used ⌝ }
+    ensures { λ _. ⌜ now (room .exit) ≡ recordedStep s (now (room .entry)) (now (bytes .entry)) at .result .room ⌝ }
+    ensures { λ _. ⌜ now (out .exit) ≡ lineWritten (now (out .entry)) used (recordedStep s (now (room .entry)) (now (bytes .entry)) at .result .answer) ⌝ }
 {
     let done = recorded_step(s, room, bytes, at);
     let answer = done.answer;

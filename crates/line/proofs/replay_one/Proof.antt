@@ -20,4 +20,7 @@ replay-one-spec =
     omega (arith, c .before .before .write-line .ensures .0, used-within (now (a .out)) (a .used) (c .before .before .before .before .before .before .before .before .recorded-step .result .answer)))
     (λ c. search needs)
     (λ c. search needs)
-    (λ c. rw (← c .before .before .before .before .before .before .before .before .recorded-step .ensures, c .before .before .before .before .stops-reading .ensures, c .before .before .write-line .ensures .0, c .before .before .write-line .ensures .1)))
+    (λ c.
+    let step = c .before .before .before .before .before .before .before .before .recorded-step .ensures in
+    let line = c .before .before .write-line .ensures in
+    (rw (← step, c .before .before .before .before .stops-reading .ensures, line .0), (rw (← step), rw (← step, line .1)))))
