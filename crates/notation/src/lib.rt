@@ -116,14 +116,7 @@ fn one_more(n: u64) -> u64 {
 
 // Before the first number of an operation.
 pub fn at_line(line: u64) -> Parser {
-    let numbers = Numbers {
-        code: 0,
-        cycles: 0,
-        a: 0,
-        b: 0,
-        c: 0,
-        d: 0,
-    };
+    let numbers = Numbers::new(0, 0, 0, 0, 0, 0);
     Parser {
         mode: Mode::Between,
         value: 0,
@@ -173,14 +166,10 @@ fn with_number(x: Numbers, i: u64, n: u64) -> Numbers {
 
 // The number that was being read is one of the operation's.
 fn stored(p: Parser) -> Parser {
-    let numbers = with_number(p.numbers, p.count, p.value);
-    Parser {
-        mode: Mode::Between,
-        value: 0,
-        numbers,
-        count: one_more(p.count),
-        line: p.line,
-    }
+    let mut next = moved(p, Mode::Between, 0);
+    next.numbers = with_number(p.numbers, p.count, p.value);
+    next.count = one_more(p.count);
+    next
 }
 
 fn ended_number(p: Parser) -> Number {

@@ -81,10 +81,8 @@ fn say(problem: Problem, line: u64) {
     }
 }
 
-// No more is read; what waits goes out.
-fn stopped(out: &[u8; ROOM], work: Work) -> Work {
-    flush(b"pack", out, work.waiting);
-    let parser = work.parser;
+// Nothing waits, and no more is read.
+fn ended(parser: Parser) -> Work {
     Work {
         parser,
         waiting: 0,
@@ -92,17 +90,19 @@ fn stopped(out: &[u8; ROOM], work: Work) -> Work {
     }
 }
 
+// No more is read; what waits goes out.
+fn stopped(out: &[u8; ROOM], work: Work) -> Work {
+    flush(b"pack", out, work.waiting);
+    ended(work.parser)
+}
+
 // An operation's bytes, behind what waits. No operation that was read is refused: its code is at most 7, and the longest
 // has room.
 fn put(out: &mut [u8; ROOM], waiting: usize, x: Numbers, parser: Parser) -> Work {
     let Answer::Value(n) = write_operation(out, waiting, x) else {
         io::write_all(STDERR_FILENO, b"pack: an operation was not written\n");
-        let work = Work {
-            parser,
-            waiting,
-            going: false,
-        };
-        return stopped(out, work);
+        flush(b"pack", out, waiting);
+        return ended(parser);
     };
     Work {
         parser,
@@ -119,11 +119,7 @@ fn put_operation(out: &mut [u8; ROOM], waiting: usize, x: Numbers, parser: Parse
     if flush(b"pack", out, waiting) {
         return put(out, 0, x, parser);
     }
-    Work {
-        parser,
-        waiting: 0,
-        going: false,
-    }
+    ended(parser)
 }
 
 // What a step of the reading leads to.

@@ -2,12 +2,12 @@
 use Prim.Native.Nat.{ℕ, zero, suc, _+_}
 use mathlib.Core.Bool.{cond}
 use mathlib.Core.List.{List, [], _∷_, _++_}
-use lib.Dec.{ltb, eqb}
+use lib.Dec.{ltb, leb}
 use lib.ListN.{length, getD, take}
 use Rattle.answer.specs.declared.Answer.{Answer}
 use Rattle.number.specs.declared.Found.{Found}
 use Rattle.number.specs.declared.Found.the-variants.{Value, Malformed, Ended}
-use Rattle.number.specs.Number.{numberAt, bytesOf, written}
+use Rattle.number.specs.Number.{numberAt, bytesOf, writtenIf}
 use Rattle.recording.specs.declared.Numbers.{Numbers}
 use Rattle.recording.specs.declared.Reading.{Reading}
 use Rattle.recording.specs.declared.Reading.the-variants.{Operation, UnknownCode}
@@ -73,14 +73,11 @@ unfoldable pub operationBytes : Numbers → List ℕ
 operationBytes x = bytesOfAll (x .code ∷ ownNumbers x)
 
 -- "The writer checks only 2, then 6, and answers the number of bytes it wrote."
-unfoldable pub writeRefusal : Numbers → ℕ → List ℕ → ℕ
-writeRefusal x at out =
-    cond (ltb 7 (x .code)) 2 (cond (ltb (length out) (at + length (operationBytes x))) 6 0)
+unfoldable pub writingOf : Numbers → ℕ → List ℕ → Answer
+writingOf x at out =
+    cond (ltb 7 (x .code)) (Answer.Refused 2)
+    (cond (leb (at + length (operationBytes x)) (length out)) (Answer.Value (length (operationBytes x))) (Answer.Refused 6))
 
 -- The lent bytes after the writer: on refusal nothing is written.
 unfoldable pub writtenOperation : Numbers → ℕ → List ℕ → List ℕ
-writtenOperation x at out = cond (eqb (writeRefusal x at out) 0) (written out at (operationBytes x)) out
-
-unfoldable pub writingOf : Numbers → ℕ → List ℕ → Answer
-writingOf x at out =
-    cond (eqb (writeRefusal x at out) 0) (Answer.Value (length (operationBytes x))) (Answer.Refused (writeRefusal x at out))
+writtenOperation x at out = cond (ltb 7 (x .code)) out (writtenIf out at (operationBytes x))

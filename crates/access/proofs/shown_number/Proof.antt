@@ -6,13 +6,4 @@ use Rattle.access.proofs.shown_number.Tie as tie
 
 pub shown-number-spec : {M : Type 1} → statement M
 unfolding shownRecord shownNumber
-shown-number-spec =
-    tie.close
-    (tie.spec
-    (λ _ _. tt)
-    (λ c. search needs)
-    (λ c. search needs)
-    (λ _ _. tt)
-    (λ _ _. tt)
-    (λ _ _. tt)
-    (λ c. cc))
+shown-number-spec = tie.close (tie.spec (λ _ _. tt) (λ c. search needs) (λ c. search needs) (λ _ _. tt) (λ _ _. tt) (λ _ _. tt) (λ c. cc))

@@ -5,9 +5,4 @@ use Rattle.change.proofs.branch_asked.Tie as tie
 
 pub branch-asked-spec : {M : Type 1} → statement M
 unfolding askedOf
-branch-asked-spec =
-    tie.close
-    (tie.spec
-    (λ _ _. tt)
-    (λ _ _. tt)
-    (λ c. cc))
+branch-asked-spec = tie.close (tie.spec (λ _ _. tt) (λ _ _. tt) (λ c. cc))

@@ -5,9 +5,4 @@ use Rattle.change.proofs.exception_asked.Tie as tie
 
 pub exception-asked-spec : {M : Type 1} → statement M
 unfolding askedOf
-exception-asked-spec =
-    tie.close
-    (tie.spec
-    (λ _ _. tt)
-    (λ _ _. tt)
-    (λ c. cc))
+exception-asked-spec = tie.close (tie.spec (λ _ _. tt) (λ _ _. tt) (λ c. cc))

@@ -5,12 +5,4 @@ use Rattle.change.proofs.occasion.Tie as tie
 
 pub occasion-spec : {M : Type 1} → statement M
 unfolding occasion
-occasion-spec =
-    tie.close
-    (tie.spec
-    (λ _ _. tt)
-    (λ _ _. tt)
-    (λ _ _. tt)
-    (λ _ _. tt)
-    (λ _ _. tt)
-    (λ c. cc))
+occasion-spec = tie.close (tie.spec (λ _ _. tt) (λ _ _. tt) (λ _ _. tt) (λ _ _. tt) (λ _ _. tt) (λ c. cc))

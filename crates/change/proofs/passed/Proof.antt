@@ -5,9 +5,4 @@ use Rattle.change.proofs.passed.Tie as tie
 
 pub passed-spec : {M : Type 1} → statement M
 unfolding passed
-passed-spec =
-    tie.close
-    (tie.spec
-    (λ _ _. tt)
-    (λ _ _. tt)
-    (λ c. cc))
+passed-spec = tie.close (tie.spec (λ _ _. tt) (λ _ _. tt) (λ c. cc))

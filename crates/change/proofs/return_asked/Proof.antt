@@ -5,9 +5,4 @@ use Rattle.change.proofs.return_asked.Tie as tie
 
 pub return-asked-spec : {M : Type 1} → statement M
 unfolding askedOf
-return-asked-spec =
-    tie.close
-    (tie.spec
-    (λ _ _. tt)
-    (λ _ _. tt)
-    (λ c. cc))
+return-asked-spec = tie.close (tie.spec (λ _ _. tt) (λ _ _. tt) (λ c. cc))

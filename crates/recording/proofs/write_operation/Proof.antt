@@ -1,15 +1,18 @@
 -- Writing an operation, as defined: each way out knows the refusal, and the bytes are those of the operation's own numbers.
-use Prim.Native.Nat.{ℕ, _+_}
-use mathlib.Core.Path.{_≡_, ap}
-use mathlib.Core.List.{[], _∷_}
+use Prim.Native.Nat.{ℕ, _+_, _≤_, _<_}
+use mathlib.Core.Path.{_≡_, ap, _∙_}
+use mathlib.Core.List.{List, [], _∷_}
 use native.Mathlib.Numerals.{add-two}
 use native.Mathlib.Omega.{arith}
 use borrow.Author.Needs.{needs}
-use borrow.Author.Tests.{lt-ltb, le-ltb}
+use borrow.Author.Tests.{lt-ltb, le-ltb, lt-leb, le-leb}
 use denote.Ref.{now}
 use lib.ListN.{length, take}
+use Rattle.answer.specs.declared.Answer.the-variants.{Value, Refused}
+use Rattle.number.specs.Number.{written}
+use Rattle.number.proofs.Written.{no-room, room}
 use Rattle.recording.specs.declared.Numbers.{Numbers}
-use Rattle.recording.specs.Recording.{fieldCount, bytesOfAll, operationBytes, writeRefusal, writingOf, writtenOperation}
+use Rattle.recording.specs.Recording.{fieldCount, bytesOfAll, operationBytes, writingOf, writtenOperation}
 use Rattle.recording.proofs.Cases.{fields-at-most}
 use Rattle.recording.proofs.write_operation.Statement.{statement}
 use Rattle.recording.proofs.write_operation.Tie as tie
@@ -20,42 +23,55 @@ own-bytes : (x : Numbers) (count : ℕ) → count ≡ fieldCount (x .code)
 unfolding operationBytes
 own-bytes x count e = rw (e, add-two)
 
+-- The answers of an operation whose code is known, by the room.
+module _ (x : Numbers) (at : ℕ) (out : List ℕ) (known : x .code ≤ 7) where
+  no-place : length out < at + length (operationBytes x) → (Refused 6 ≡ writingOf x at out) × (out ≡ writtenOperation x at out)
+  unfolding writingOf writtenOperation
+  no-place h =
+      let e = le-ltb 7 (x .code) known in
+      (rw (e, lt-leb (at + length (operationBytes x)) (length out) h), rw e (no-room out at (operationBytes x) h .1))
+
+  a-place : at + length (operationBytes x) ≤ length out
+      → (Value (length (operationBytes x)) ≡ writingOf x at out) × (written out at (operationBytes x) ≡ writtenOperation x at out)
+  unfolding writingOf writtenOperation
+  a-place h =
+      let e = le-ltb 7 (x .code) known in
+      (rw (e, le-leb (at + length (operationBytes x)) (length out) h), rw e (room out at (operationBytes x) h .1))
+
+-- What was counted is the length of the operation's bytes.
+abbrev written-one : tie.After-numbers-length → Numbers
+written-one l = l .before .before .before .before .before .args .x
+
+counted : (l : tie.After-numbers-length) → l .numbers-length .result ≡ length (operationBytes (written-one l))
+counted l =
+    let n = l .before .field-count in
+    l .numbers-length .ensures .0 ∙ ap length (own-bytes (written-one l) (n .result) (n .ensures .0))
+
 returns : tie.Need-returns
-unfolding writeRefusal writingOf writtenOperation
+unfolding writingOf writtenOperation
 returns c = let e = lt-ltb 7 (c .before .before .before .args .x .code) (omega arith) in (rw e, rw e)
 
 returns-2 : tie.Need-returns-2
-unfolding writeRefusal writingOf writtenOperation
 returns-2 c =
     let a = c .before .before .before .before .before .before .args in
-    let n = c .before .before .field-count in
-    let own = ap length (own-bytes (a .x) (n .result) (n .ensures .0)) in
-    let known = le-ltb 7 (a .x .code) (omega arith) in
-    let short = lt-ltb (length (now (a .out))) (a .at + length (operationBytes (a .x))) (omega arith) in
-    (rw (known, short), rw (known, short))
+    let size = counted (c .before) in
+    no-place (a .x) (a .at) (now (a .out)) (omega arith) (omega arith)
 
 returns-3 : tie.Need-returns-3
-unfolding writeRefusal writingOf writtenOperation
 returns-3 c =
     let a = c .before .before .before .before .before .before .before .args in
-    let n = c .before .before .before .field-count in
-    let own = ap length (own-bytes (a .x) (n .result) (n .ensures .0)) in
-    let known = le-ltb 7 (a .x .code) (omega arith) in
-    let short = lt-ltb (length (now (a .out))) (a .at + length (operationBytes (a .x))) (omega arith) in
-    (rw (known, short), rw (known, short))
+    let size = counted (c .before .before) in
+    no-place (a .x) (a .at) (now (a .out)) (omega arith) (omega arith)
 
 returns-4 : tie.Need-returns-4
-unfolding writeRefusal writingOf writtenOperation
 returns-4 c =
     let w = c .before .before in
     let l = w .before .before .before .before in
     let a = l .before .before .before .before .before .args in
     let n = l .before .field-count in
-    let own = own-bytes (a .x) (n .result) (n .ensures .0) in
-    let size = ap length own in
-    let known = le-ltb 7 (a .x .code) (omega arith) in
-    let room = le-ltb (length (now (a .out))) (a .at + length (operationBytes (a .x))) (omega arith) in
-    (rw (known, room, ← own, ← l .numbers-length .ensures .0), rw (known, room, ← own) (w .write-numbers .ensures))
+    let size = counted l in
+    let (count, content) = a-place (a .x) (a .at) (now (a .out)) (omega arith) (omega arith) in
+    (ap Value size ∙ count, w .write-numbers .ensures ∙ ap (written (now (a .out)) (a .at)) (own-bytes (a .x) (n .result) (n .ensures .0)) ∙ content)
 
 pub write-operation-spec : {M : Type 1} → statement M
 write-operation-spec =
