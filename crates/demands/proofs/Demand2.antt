@@ -29,9 +29,10 @@ use Rattle.operation.specs.declared.Operation.{Operation}
 use Rattle.operation.specs.declared.Operation.the-variants.{Reset, Branch, Exception, Return, Platform, Read, Write, Iall, Unknown}
 use Rattle.operation.specs.Refusal.{notReset, refusalOf}
 use Rattle.operation.specs.Changed.{changed}
-use Rattle.operation.proofs.Size.{write-size}
+use Rattle.operation.proofs.Size.{Resets, is-reset, no-reset, resets, size-kept}
 use Rattle.operation.proofs.Laws.{accepts, sized}
 use Rattle.change.specs.Change.{passed, askedOf, effectOf}
+use Rattle.change.proofs.Laws.{of-effect}
 use Rattle.recorder.specs.Step.{accepted, stepOf}
 use Rattle.recorder.proofs.Laws.{accepted-step, refused-step}
 use Rattle.demands.specs.After.{recordsAfter, IsEvent, branch, exception, return, entered}
@@ -136,29 +137,13 @@ hidden-address-zero s r return new h = rw (made-record s r _ _ new h) (record-hi
 -- ---- newest: what an accepted operation does to the list of records
 
 -- The size that refusal 6 judges by is the size after the effect.
-keeps-size : (size : ℕ) (s : State) (r : Running) (wanted : Bool) (e : Event) → size ≡ sizeAfterEffect size (made s r wanted e)
-unfolding made
-keeps-size size s r wanted e = go (wanted && not (PAUSED s) && not (eqb (valid s e) 0))
-  where
-    go : (t : Bool) → size ≡ sizeAfterEffect size (cond t (Push (recordOf s r e)) Keep)
-    go true = refl
-    go false = refl
-
-cleared-or-kept : (size : ℕ) (t : Bool) → size ≡ sizeAfterEffect size (cond t Clear Keep)
-cleared-or-kept size true = refl
-cleared-or-kept size false = refl
-
-pub size-after : (s : State) (o : Operation) (r : Running) → changed s o .size ≡ sizeAfterEffect (s .size) (effectOf s o r)
+size-after : (s : State) (o : Operation) (r : Running) → changed s o .size ≡ sizeAfterEffect (s .size) (effectOf s o r)
 unfolding effectOf askedOf changed
-size-after s (Reset size v1p1) r = refl
-size-after s (Branch kind m source target) r = keeps-size (s .size) s r _ _
-size-after s (Exception kind level source target) r = keeps-size (s .size) s r _ _
-size-after s (Return level m source target) r = keeps-size (s .size) s r _ _
-size-after s (Platform p) r = refl
-size-after s (Read register) r = refl
-size-after s (Write register value) r = write-size s register value
-size-after s Iall r = cleared-or-kept (s .size) (isDone (iallOutcome s))
-size-after s Unknown r = refl
+size-after s o r = go (resets o)
+  where
+    go : {o : Operation} → Resets o → changed s o .size ≡ sizeAfterEffect (s .size) (effectOf s o r)
+    go is-reset = refl
+    go (no-reset {o} h) = size-kept s o h ∙ of-effect (λ e. s .size ≡ sizeAfterEffect (s .size) e) s r refl refl (λ e. refl) o h
 
 -- Only an event makes a record, and it needs a reset before it.
 pub pushed-by : (s : State) (o : Operation) (r : Running) (new : Record) → effectOf s o r ≡ Push new → IsEvent o

@@ -3,27 +3,18 @@
 use Prim.Native.Nat.{ℕ, _+_}
 use native.Mathlib.Omega.{arith}
 use mathlib.Core.Path.{_≡_, refl, sym, ap, _∙_}
-use mathlib.Core.Bool.{Bool, true, false, cond, _&&_, not}
+use mathlib.Core.Bool.{Bool, true, false, cond, not}
 use mathlib.Core.List.{List, [], _∷_, _++_, append-assoc}
 use lib.Dec.{eqb}
 use lib.ListN.{length, length-append}
 use borrow.Author.Tests.{not-true}
 use Rattle.bits.proofs.Cases.{never}
 use Rattle.bits.proofs.Each.{first, second}
-use Rattle.answer.specs.Answer.{isDone}
-use Rattle.state.specs.declared.State.{State}
-use Rattle.state.specs.declared.Running.{Running}
-use Rattle.state.specs.Named.{PAUSED}
 use Rattle.room.specs.declared.Record.{Record}
 use Rattle.room.specs.declared.Effect.{Effect}
 use Rattle.room.specs.declared.Effect.the-variants.{Keep, Push, Clear, Start}
-use Rattle.event.specs.declared.Event.{Event}
-use Rattle.event.specs.Event.{valid, recordOf, made}
-use Rattle.access.specs.Access.{iallOutcome}
-use Rattle.operation.specs.declared.Operation.{Operation}
-use Rattle.operation.specs.declared.Operation.the-variants.{Reset, Branch, Exception, Return, Platform, Read, Write, Iall, Unknown}
 use Rattle.operation.specs.Operation.{codeOf}
-use Rattle.change.specs.Change.{askedOf, effectOf}
+use Rattle.change.proofs.Laws.{of-effect}
 use Rattle.history.proofs.Demand3.{forgotten}
 use Rattle.history.specs.History.{Timed, Machine, stepped, run, Note, Noted, isAccepted, effectIn, clockAfter, notesAfter, notedStep, notedRun, history, notesOf, note, T, acceptedCycles, noReset, justMade}
 
@@ -33,27 +24,6 @@ data RunsOn : Effect → Type 0 where
   keeps : RunsOn Keep
   pushes : {new : Record} → RunsOn (Push new)
   clears : RunsOn Clear
-
-one-of : (t : Bool) {x y : Effect} → RunsOn x → RunsOn y → RunsOn (cond t x y)
-one-of true a b = a
-one-of false a b = b
-
-module _ (s : State) (r : Running) where
-  made-runs : (wanted : Bool) (e : Event) → RunsOn (made s r wanted e)
-  unfolding made
-  made-runs wanted e = one-of (wanted && not (PAUSED s) && not (eqb (valid s e) 0)) (pushes {new = recordOf s r e}) keeps
-
-  runs-on : (o : Operation) → eqb (codeOf o) 0 ≡ false → RunsOn (effectOf s o r)
-  unfolding effectOf askedOf
-  runs-on (Reset size v1p1) h = never (cc)
-  runs-on (Branch kind m source target) h = made-runs _ _
-  runs-on (Exception kind level source target) h = made-runs _ _
-  runs-on (Return level m source target) h = made-runs _ _
-  runs-on (Platform p) h = keeps
-  runs-on (Read k) h = keeps
-  runs-on (Write k value) h = keeps
-  runs-on Iall h = one-of (isDone (iallOutcome s)) clears keeps
-  runs-on Unknown h = keeps
 
 -- From one point of a run to a later one: so many cycles, and these notes.
 pub record Since (x y : Noted) (cycles : ℕ) : Type 0 where
@@ -77,7 +47,7 @@ step-since x t h = go (isAccepted (x .machine) t)
       clock = cond b (clockAfter (effectIn (x .machine) t) (x .clock + t .cycles)) (x .clock);
       notes = cond b (notesAfter (effectIn (x .machine) t) (x .clock + t .cycles) (x .notes)) (x .notes);
     }) (cond b (t .cycles) 0)
-    go true = effect-since x (stepped (x .machine) t) (t .cycles) (runs-on (x .machine .state) _ (t .operation) h)
+    go true = effect-since x (stepped (x .machine) t) (t .cycles) (of-effect RunsOn (x .machine .state) _ keeps clears (λ e. pushes) (t .operation) h)
     go false = record { clock = omega arith; new = []; notes = refl }
 
 run-since : (x : Noted) (list : List Timed) → noReset list ≡ true → Since x (notedRun x list) (acceptedCycles (x .machine) list)

@@ -25,7 +25,7 @@ use Rattle.room.specs.Room.{needed}
 use Rattle.operation.specs.Refusal.{unknownCode, notReset, outsideList, notPermitted, roomTooShort, firstThat, refusalOf}
 use Rattle.bits.proofs.Cases.{either, never}
 use Rattle.operation.specs.Changed.{changed}
-use Rattle.operation.proofs.Size.{write-size}
+use Rattle.operation.proofs.Size.{Resets, is-reset, no-reset, resets, size-kept}
 use Rattle.change.specs.Change.{occasion, passed, effectOf, runningAfter}
 use Rattle.recorder.specs.Step.{accepted, stepOf}
 use Rattle.history.specs.History.{Timed, Machine, isAccepted, stepped, run, FromReset, reset, unset}
@@ -177,15 +177,11 @@ largest size h =
 
 size-bound : (s : State) (o : Operation) → sound s ≡ true → outsideList o ≡ false → changed s o .size ≤ 64
 unfolding outsideList changed
-size-bound s (Reset size v1p1) h listed = largest size (sized size (search each))
-size-bound s (Branch kind m source target) h listed = largest (s .size) (lines s h .0 .size)
-size-bound s (Exception kind level source target) h listed = largest (s .size) (lines s h .0 .size)
-size-bound s (Return level m source target) h listed = largest (s .size) (lines s h .0 .size)
-size-bound s (Platform p) h listed = largest (s .size) (lines s h .0 .size)
-size-bound s (Read r) h listed = largest (s .size) (lines s h .0 .size)
-size-bound s (Write r value) h listed = rw (write-size s r value) (largest (s .size) (lines s h .0 .size))
-size-bound s Iall h listed = largest (s .size) (lines s h .0 .size)
-size-bound s Unknown h listed = largest (s .size) (lines s h .0 .size)
+size-bound s o h listed = go (resets o) listed
+  where
+    go : {o : Operation} → Resets o → outsideList o ≡ false → changed s o .size ≤ 64
+    go (is-reset {size = size}) l = largest size (sized size (search each))
+    go (no-reset {o} is) l = rw (size-kept s o is) (largest (s .size) (lines s h .0 .size))
 
 not-six : (a b c d e f : Bool) → (d ≡ false → f ≡ false)
     → firstThat ((7, a) ∷ (2, b) ∷ (3, c) ∷ (4, d) ∷ (5, e) ∷ (6, f) ∷ []) ≢ 6

@@ -1,8 +1,9 @@
 -- The size after the operation, as defined: each arm knows its operation, and no write changes the size.
-use mathlib.Core.Path.{sym}
+use mathlib.Core.Path.{refl, sym}
 use borrow.Author.Needs.{needs}
+use Rattle.operation.specs.declared.Operation.the-variants.{Write}
 use Rattle.operation.specs.Changed.{changed}
-use Rattle.operation.proofs.Size.{write-size}
+use Rattle.operation.proofs.Size.{size-kept}
 use Rattle.operation.proofs.size_after.Statement.{statement}
 use Rattle.operation.proofs.size_after.Tie as tie
 
@@ -26,6 +27,6 @@ size-after-spec =
     (λ c. rw (c .enum-told3 .given .1))
     (λ c. rw (c .enum-told4 .given .1))
     (λ c. rw (c .enum-told5 .given .1))
-    (λ c. let (o, e) = c .enum-told6 .given in rw e (sym (write-size (c .before .before .args .s) (o .0) (o .1 .0))))
+    (λ c. let (o, e) = c .enum-told6 .given in rw e (sym (size-kept (c .before .before .args .s) (Write (o .0) (o .1 .0)) refl)))
     (λ c. rw (c .enum-told7 .given .1))
     (λ c. rw (c .enum-told8 .given .1)))
