@@ -1,7 +1,7 @@
 -- Document 01, "Recordings": "It prints a line for each read (16 lower-case hex digits), each access not performed
 -- (undefined, trap2, trap3) and each refusal ('refused 4'); nothing else."
 use Prim.Native.Nat.{ℕ, zero, suc, _+_}
-use mathlib.Core.Bool.{true, false, cond}
+use mathlib.Core.Bool.{cond}
 use mathlib.Core.List.{List, [], _++_}
 use lib.Dec.{leb}
 use lib.ListN.{length, replicate}
@@ -37,10 +37,7 @@ replayFrom zero s room bytes at = []
 replayFrom (suc k) s room bytes at =
     let r = recordedStep s room bytes at in
     let rest = replayFrom k (r .result .state) (r .result .room) bytes (r .next) in
-    elim (leb (length bytes) at) [
-      | true ↦ []
-      | false ↦ lineOf (r .result .answer) ++ elim (stopsReading (r .result .answer)) [ true ↦ [] | false ↦ rest ]
-    ]
+    cond (leb (length bytes) at) [] (lineOf (r .result .answer) ++ cond (stopsReading (r .result .answer)) [] rest)
 
 -- What the replay of a recording prints. "The replay program starts from a fresh state with room for 64 records." Each operation
 -- has a byte at least, so that the recording's length bounds them.
