@@ -40,7 +40,7 @@ impl Answer {
         }
     }
 
-    // The value, 0 but for a read.
+    // What it shows, and 0 where it shows nothing.
     pub fn value(self) -> u64
         ensures { λ r. ⌜ r ≡ returned self .value ⌝ }
     {

@@ -1,13 +1,12 @@
 -- A closed run: records of a stretch that are counted, one of them rounded, BRB IALL before them, and a refused operation in their midst.
-use Prim.Native.Nat.{ℕ}
+use Prim.Native.Nat.{ℕ, _+_}
 use mathlib.Core.Path.{_≡_, refl}
 use mathlib.Core.Bool.{Bool, true, false}
-use mathlib.Core.List.{List, [], _∷_}
-use lib.ListN.{replicate}
+use mathlib.Core.List.{List, [], _∷_, _++_}
+use lib.ListN.{length, replicate}
 use Rattle.state.specs.Named.{fresh}
 use Rattle.room.specs.declared.Record.{Record}
 use Rattle.operation.specs.Operation.{operationOf}
-use Rattle.history.specs.History.{Timed, Machine, shown, notesOf, stretch, S, T}
 use Rattle.filter.specs.Filter.{filterBit, chosen}
 use Rattle.count.specs.Count.{bitLength, exponent, mantissa, encoded, countOf, decoded}
 use Rattle.state.specs.Sound.{closed, sound}
@@ -19,14 +18,15 @@ use Rattle.operation.specs.Refusal.{unknownCode, notReset, outsideList, notPerm
 use Rattle.operation.specs.Changed.{changed}
 use Rattle.change.specs.Change.{occasion, passed, askedOf, effectOf}
 use Rattle.recorder.specs.Step.{answerOf, accepted, stepOf}
-use Rattle.history.specs.History.{stepped, run, notedStep, notedRun}
+use Rattle.history.specs.History.{Timed, Machine, stepped, run, shown, notedStep, notedRun, history, notesOf, stretch, S, T, acceptedCycles, noReset, justMade}
+use Rattle.history.proofs.Clock.{exact-time}
 
 abbrev operation : ℕ → ℕ → ℕ → ℕ → ℕ → ℕ → Timed
 operation code cycles a b c d = record { operation = operationOf code a b c d; cycles = cycles }
 
--- Session S1's operations up to its first branch; then BRB IALL, two branches, a branch of no such type (refused 4), a read, and a branch.
-abbrev session : List Timed
-session =
+-- Session S1's operations up to its first branch; then BRB IALL and a branch, whose record will be the oldest of the stretch.
+abbrev before : List Timed
+before =
     operation 0 0 8 0 0 0
     ∷ operation 4 0 49 0 0 0
     ∷ operation 6 0 1 10 0 0
@@ -36,11 +36,14 @@ session =
     ∷ operation 1 300 0 0 4100 4112
     ∷ operation 7 5 0 0 0 0
     ∷ operation 1 295 8 1 4112 4096
-    ∷ operation 1 300 0 0 4100 4112
-    ∷ operation 1 1000 7 0 4100 4112
-    ∷ operation 5 13 32 0 0 0
-    ∷ operation 1 500 0 0 4100 4112
     ∷ []
+
+-- A branch, a branch of no such type (refused 4), a read, and a branch, whose record is the newest.
+abbrev after : List Timed
+after = operation 1 300 0 0 4100 4112 ∷ operation 1 1000 7 0 4100 4112 ∷ operation 5 13 32 0 0 0 ∷ operation 1 500 0 0 4100 4112 ∷ []
+
+abbrev session : List Timed
+session = before ++ after
 
 abbrev start : Machine
 start = record { state = fresh; room = replicate 24 0 }
@@ -49,6 +52,13 @@ abbrev seen : List Record
 seen = shown (run start session)
 
 -- Records 0 to 2 are such a stretch: the counts 512 (of 513 cycles) and 300, over 813 cycles. Record 3 was cleared.
-pub closed-run : _≡_ {A = Bool × Bool × ℕ × ℕ} (stretch seen 0 2, stretch seen 0 3, S seen 0 2, T (notesOf start session) 0 2) (true, false, 812, 813)
-unfolding bitLength exponent mantissa encoded countOf decoded closed sound records numbered pushed cleared roomAfter enabled prohibited filterBit chosen controlled valid countUnknown MPRED BRBINF recordOf made permitted trapped2 outcome readOutcome writeOutcome iallOutcome registerWritten operationOf unknownCode notReset outsideList notPermitted roomTooShort refusalOf changed occasion passed askedOf effectOf answerOf accepted stepOf stepped run notedStep notedRun stretch S
-closed-run = refl
+-- What `exact-time` assumes holds of the two parts of the session.
+pub closed-run : (_≡_ {A = Bool × Bool × ℕ × ℕ × ℕ} (stretch seen 0 2, stretch seen 0 3, S seen 0 2, T (notesOf start session) 0 2, acceptedCycles (run start before) after)
+    (true, false, 812, 813, 813))
+    × (noReset after ≡ true) × justMade (history start before) × justMade (history start session)
+    × (length (notesOf start session) ≡ 2 + length (notesOf start before))
+unfolding bitLength exponent mantissa encoded countOf decoded closed sound records numbered pushed cleared roomAfter enabled prohibited filterBit chosen controlled valid countUnknown MPRED BRBINF recordOf made permitted trapped2 outcome readOutcome writeOutcome iallOutcome registerWritten operationOf unknownCode notReset outsideList notPermitted roomTooShort refusalOf changed occasion passed askedOf effectOf answerOf accepted stepOf stepped run notedStep notedRun stretch S acceptedCycles noReset
+closed-run = (refl, refl, refl, refl, refl)
+
+closed-time : T (notesOf start session) 0 2 ≡ acceptedCycles (run start before) after
+closed-time = exact-time start before after 2 (closed-run .1) (closed-run .2) (closed-run .3) (closed-run .4)

@@ -176,7 +176,7 @@ unfoldable pub noReset : List Timed → Bool
 noReset [] = true
 noReset (t ∷ list) = not (eqb (codeOf (t .operation)) 0) && noReset list
 
--- The last operation of a sequence made a record: the newest note has the present time.
+-- No cycles have passed since the newest record was made, as right after its event: its note has the present time.
 abbrev pub justMade : Noted → Type 0
 justMade x = note 0 (x .notes) .time ≡ x .clock
 
