@@ -80,45 +80,29 @@ fn complain(program: &[u8], what: &[u8], text: &[u8]) {
 }
 
 // The same, with nothing to read from here on.
-fn refuse(program: &[u8], what: &[u8], text: &[u8], seen: Seen) -> Seen {
+fn refuse(program: &[u8], what: &[u8], text: &[u8], mut seen: Seen) -> Seen {
     complain(program, what, text);
-    Seen {
-        help: seen.help,
-        numbers: seen.numbers,
-        name: seen.name,
-        wrong: true,
-    }
+    seen.wrong = true;
+    seen
 }
 
 // The input's name, at place i: there is one at most.
-fn named(program: &[u8], i: usize, text: &[u8], seen: Seen) -> Seen {
+fn named(program: &[u8], i: usize, text: &[u8], mut seen: Seen) -> Seen {
     if seen.name != 0 {
         return refuse(program, b"a second input, ", text, seen);
     }
-    Seen {
-        help: seen.help,
-        numbers: seen.numbers,
-        name: i,
-        wrong: seen.wrong,
-    }
+    seen.name = i;
+    seen
 }
 
-fn helped(seen: Seen) -> Seen {
-    Seen {
-        help: true,
-        numbers: seen.numbers,
-        name: seen.name,
-        wrong: seen.wrong,
-    }
+fn helped(mut seen: Seen) -> Seen {
+    seen.help = true;
+    seen
 }
 
-fn numbered(seen: Seen) -> Seen {
-    Seen {
-        help: seen.help,
-        numbers: true,
-        name: seen.name,
-        wrong: seen.wrong,
-    }
+fn numbered(mut seen: Seen) -> Seen {
+    seen.numbers = true;
+    seen
 }
 
 // What the arguments say with the one at place i, whose text this is. `numbers`: the program has that option.
