@@ -1,8 +1,8 @@
-// Accesses to registers and BRB IALL (document 01, "Access outcomes").
+// Accesses to registers and BRB IALL (document 01, "Access outcomes"; docs/MANUAL.md, the same).
 ghost use mathlib.Core.Path.{_≡_};
 ghost use mathlib.Core.Bool.{true, false};
 ghost use Rattle.room.specs.Room.{records};
-ghost use Rattle.access.specs.Access.{isRecordRegister, isRegister, permitted, trapped2, trapped3, outcome, readOutcome, writeOutcome, iallOutcome, meant, shownNumber, registerValue, registerWritten};
+ghost use Rattle.access.specs.Access.{isRecordRegister, isRegister, nBit, trapped2, trapped3, outcome, readOutcome, writeOutcome, iallOutcome, meant, shownNumber, BRBIDR0, registerValue, registerWritten};
 use answer::Answer;
 use bits::pick;
 use bits::pick_bool;
@@ -30,6 +30,11 @@ const NBRBIDR: u64 = 0x1000;
 
 const NBRBIALL: u64 = 0x2000;
 
+// BRBIDR0_EL1: CC says that the cycle counter has 20 bits, FORMAT is 0, and NUMREC stands lowest.
+const COUNTER: u64 = 0x5000;
+
+const NUMREC: u64 = 0x1;
+
 // A register of a record: BRBINF, BRBSRC or BRBTGT.
 fn is_record_register(r: u64) -> bool
     ensures { λ x. ⌜ x ≡ isRecordRegister r ⌝ }
@@ -44,9 +49,9 @@ pub fn is_register(r: u64) -> bool
     (r <= 3) | record
 }
 
-// The bit of P that permits an access to the register at EL1.
-fn permitted(s: State, writing: bool, r: u64) -> bool
-    ensures { λ x. ⌜ x ≡ permitted s writing r ⌝ }
+// The n-bit of P that an access to the register looks at.
+fn n_bit(s: State, writing: bool, r: u64) -> bool
+    ensures { λ x. ⌜ x ≡ nBit s writing r ⌝ }
 {
     let control = pick_bool(
         writing,
@@ -92,14 +97,14 @@ pub fn access_outcome(s: State, undefined: bool, nbit: bool) -> Answer
 pub fn read_outcome(s: State, r: u64) -> Answer
     ensures { λ x. ⌜ x ≡ readOutcome s r ⌝ }
 {
-    let nbit = permitted(s, false, r);
+    let nbit = n_bit(s, false, r);
     access_outcome(s, (s.level == 1) & (r == 2), nbit)
 }
 
 pub fn write_outcome(s: State, r: u64) -> Answer
     ensures { λ x. ⌜ x ≡ writeOutcome s r ⌝ }
 {
-    let nbit = permitted(s, true, r);
+    let nbit = n_bit(s, true, r);
     let record = is_record_register(r);
     let undefined = (r == 0) | record | (s.level == 1) & (r == 2);
     access_outcome(s, undefined, nbit)
@@ -128,6 +133,12 @@ fn shown_number(s: State, room: &[u64], r: u64) -> u64
     pick(r / 32 == 1, shown.inf, after1)
 }
 
+fn brbidr0(s: State) -> u64
+    ensures { λ r. ⌜ r ≡ BRBIDR0 s ⌝ }
+{
+    COUNTER + s.size % 256 * NUMREC
+}
+
 // What a performed read of a register shows.
 pub fn register_value(s: State, room: &[u64], r: u64) -> u64
     ensures { λ x. ⌜ x ≡ registerValue s (records (s .size) (now (room .entry))) r ⌝ }
@@ -136,7 +147,7 @@ pub fn register_value(s: State, room: &[u64], r: u64) -> u64
     let after2 = pick(r == 3, s.brbfcr, shown);
     let after1 = pick(r == 2, s.brbcr2, after2);
     let after0 = pick(r == 1, s.brbcr1, after1);
-    pick(r == 0, 0x5000 + s.size % 256, after0)
+    pick(r == 0, brbidr0(s), after0)
 }
 
 // A performed write keeps only the register's bits.

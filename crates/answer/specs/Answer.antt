@@ -1,12 +1,14 @@
--- Document 01, "Refusal numbers", last paragraph: answers as its numbers and values.
+-- What is answered, as two numbers: document 01, "Refusal numbers, in order of checking", the paragraph under the table;
+-- docs/MANUAL.md, "Refusals".
 use mathlib.Core.Bool.{Bool}
 use lib.Dec.{eqb}
 use Rattle.answer.specs.declared.Answer.{Answer}
 use Rattle.answer.specs.declared.Answer.the-variants.{Done, Value, Undefined, Trap2, Trap3, Refused}
 use Rattle.answer.specs.declared.Returned.{Returned}
 
--- "A refusal returns its number and the value 0. An accepted operation returns 0 (done), 100 (undefined), 102 (trap2) or
--- 103 (trap3), and a value that is 0 but for a read."
+-- The number and the value of each answer. Refusals have the numbers of the table, 1 to 7; what is accepted has 0 where it
+-- was done and, where an access was not performed, 100 (undefined), 102 (trapped to EL2) or 103 (trapped to EL3). Only what
+-- was read or counted has a value: everything else has 0.
 abbrev pub returned : Answer → Returned
 returned Done = record { number = 0; value = 0 }
 returned (Value v) = record { number = 0; value = v }
@@ -15,6 +17,6 @@ returned Trap2 = record { number = 102; value = 0 }
 returned Trap3 = record { number = 103; value = 0 }
 returned (Refused n) = record { number = n; value = 0 }
 
--- The answer is "0 (done)".
+-- The answer says that it was done: its number is 0.
 abbrev pub isDone : Answer → Bool
 isDone a = eqb (returned a .number) 0

@@ -43,7 +43,7 @@ use denote.Exit.{yes}
 use denote.Triple.Clauses.{Clauses, closing, ensured, lasts}
 use Rattle.room.specs.declared.Record.{Record}
 use Rattle.bank.specs.declared.BankView.{BankView}
-use Rattle.bank.specs.Bank.{shownFrom}
+use Rattle.bank.specs.Bank.{viewShows}
 use Rattle.bank.proofs.BankView as T
 use Rattle.bank.proofs.BankView.Laws as T′
 use Rattle.bank.proofs.BankView.inf as thin
@@ -72,10 +72,10 @@ stayed = (stay-none B yes, (stay-none (λ _. u64) yes, tt))
 module _ {M : Type 1} (𝓤 : URA M) (H : Heap 𝓤) (A : Atoms 𝓤) (p : Record → ℕ) where
   -- the promises, of the function over a view and of the one on a slice
   abbrev pub shown : Clauses 𝓤 thin.ended
-  shown κs a = record { ghost = Unit {0}; requires = λ _. emp 𝓤; ensures = λ _ r _. fact 𝓤 (r ≡ p (shownFrom (a .0 .size) (a .0 .start) (a .1 .0) (now (a .0 .records)))) }
+  shown κs a = record { ghost = Unit {0}; requires = λ _. emp 𝓤; ensures = λ _ r _. fact 𝓤 (r ≡ p (viewShows (a .0 .size) (a .0 .first) (a .1 .0) (now (a .0 .records)))) }
 
   abbrev pub shown-at : Clauses 𝓤 at.ended
-  shown-at κs a = record { ghost = Unit {0}; requires = λ _. emp 𝓤; ensures = λ _ r _. fact 𝓤 (r ≡ p (shownFrom (a .1 .0) (a .1 .1 .0) (a .1 .1 .1 .0) (now (a .0)))) }
+  shown-at κs a = record { ghost = Unit {0}; requires = λ _. emp 𝓤; ensures = λ _ r _. fact 𝓤 (r ≡ p (viewShows (a .1 .0) (a .1 .1 .0) (a .1 .1 .1 .0) (now (a .0)))) }
 
   abbrev pub At : Contract 𝓤
   At = tripleOf 𝓤 H A at.signature (closing 𝓤 H A at.ended shown-at)
@@ -88,7 +88,7 @@ module _ {M : Type 1} (𝓤 : URA M) (H : Heap 𝓤) (A : Atoms 𝓤) (W : Given
   vals = (mach ∷ [], (vint w64 m ∷ [], tt))
 
   abbrev found : ℕ
-  found = p (shownFrom (d .size) (d .start) m (now (d .records)))
+  found = p (viewShows (d .size) (d .first) m (now (d .records)))
 
   abbrev Post : Val → SProp 𝓤
   Post = walkOf 𝓤 H A thin.ended stayed (shown 𝓤 H A p) .post (((κ, tt), (q, tt), tt, (d, (m, tt)), vals), tt)
@@ -104,14 +104,14 @@ module _ {M : Type 1} (𝓤 : URA M) (H : Heap 𝓤) (A : Atoms 𝓤) (W : Given
   L = T′.the-laws (namedLft 1 0 tt (κ, tt))
 
   abbrev vd : Values (D .parts)
-  vd = (d .records, (d .size, (d .start, tt)))
+  vd = (d .records, (d .size, (d .first, tt)))
 
   -- what the callee is passed
   abbrev x : RefT (List ℕ) × (ℕ × (ℕ × (ℕ × Unit {0})))
-  x = (d .records, (d .size, (d .start, (m, tt))))
+  x = (d .records, (d .size, (d .first, (m, tt))))
 
   abbrev passed : List Val × (List Val × (List Val × (List Val × Unit {0})))
-  passed = (sliceVal (d .records .ptr) (length (d .records .now)) ∷ [], (vint w64 (d .size) ∷ [], (vint w64 (d .start) ∷ [], (vint w64 m ∷ [], tt))))
+  passed = (sliceVal (d .records .ptr) (length (d .records .now)) ∷ [], (vint w64 (d .size) ∷ [], (vint w64 (d .first) ∷ [], (vint w64 m ∷ [], tt))))
 
   abbrev to : At 𝓤 H A p .Ghost
   to = (((κ, tt), (q, tt), tt, x, passed), tt)
@@ -120,13 +120,13 @@ module _ {M : Type 1} (𝓤 : URA M) (H : Heap 𝓤) (A : Atoms 𝓤) (W : Given
   asked = qed W ((‵ (flft κ q) ⊛ ‵ ftrue) ∷ ‵ (owns (ShrSlice (named 0) κ u64 ∷ u64 ∷ u64 ∷ u64 ∷ []) x passed) ∷ []) ∵ join ! $ frame ! $ done !
 
   -- what the view owns gives what the callee asks, and is kept
-  apart : d .size < 2 ^ 64 → d .start < 2 ^ 64 → ent 𝓤 (onEntry 𝓤 H A thin.signature (κ, tt) (q, tt) (d, (m, tt)) vals) (sep 𝓤 (At 𝓤 H A p .pre to) (sem 𝓤 H A Own))
-  apart size-fits start-fits =
+  apart : d .size < 2 ^ 64 → d .first < 2 ^ 64 → ent 𝓤 (onEntry 𝓤 H A thin.signature (κ, tt) (q, tt) (d, (m, tt)) vals) (sep 𝓤 (At 𝓤 H A p .pre to) (sem 𝓤 H A Own))
+  apart size-fits first-fits =
       qed W ((‵ (flft κ q) ⊛ ‵ ftrue) ∷ ‵ (owns (B (κ, tt) ∷ u64 ∷ []) (d, (m, tt)) vals) ∷ []) ∵
       move ! (1 ∷ []) $ fsplit ! $ move ! (1 ∷ []) $ drop ! $ use1 W (‵ Own ⊛ ‵ Own) (LL.copy D (T′.the-copy (namedLft 1 0 tt (κ, tt))) 𝓤 H A W .twice d (mach ∷ [])) $ split ! $
       use1 W (given (mach ∷ [] ≡ mach ∷ []) (‵ (all-own (D .parts) L vd))) (own-open 𝓤 H A W D L vd mach) $ learn ! (λ _. fsplit ! $ move ! (1 ∷ []) $ drop ! $
       -- [what the slice owns; what the view owns; the token]
-      nothing ! $ owned ! u64 (Is u64) (uint-makes 𝓤 H A W w64) m _ (refl, fits) $ fjoin ! $ owned ! u64 (Is u64) (uint-makes 𝓤 H A W w64) (d .start) _ (refl, start-fits) $ fjoin ! $
+      nothing ! $ owned ! u64 (Is u64) (uint-makes 𝓤 H A W w64) m _ (refl, fits) $ fjoin ! $ owned ! u64 (Is u64) (uint-makes 𝓤 H A W w64) (d .first) _ (refl, first-fits) $ fjoin ! $
       owned ! u64 (Is u64) (uint-makes 𝓤 H A W w64) (d .size) _ (refl, size-fits) $ fjoin ! $ move ! (1 ∷ 0 ∷ []) $ fjoin ! $
       move ! (2 ∷ 0 ∷ []) $ use2 W (raw (At 𝓤 H A p .pre to)) asked $ frame ! $ done !)
 

@@ -1,10 +1,11 @@
-// The bank view (document 01, "Access outcomes", last paragraph): "a bank view holds a reference to the lent records and shows
-// that bank's part and no other." It holds them beside two numbers. What it shows is decided by `record_from`, on a plain
-// slice; the functions that take, make or hold a view are thin, since their proofs are by hand.
+// The bank view (document 01, "Access outcomes", last paragraph; docs/MANUAL.md, "The bank view"). It holds a reference to the
+// lent records beside two numbers. What it shows is decided by `record_from`, on a plain slice; the functions that take,
+// make or hold a view are thin, since their proofs are by hand.
 ghost use mathlib.Core.Path.{_≡_};
 ghost use mathlib.Core.Bool.{cond};
 ghost use lib.Dec.{eqb};
-ghost use Rattle.bank.specs.Bank.{bankRefusal, bankStart, shownFrom, bankShows};
+ghost use Prim.Native.Nat.{_*_, _%_};
+ghost use Rattle.bank.specs.Bank.{bankRefusal, viewShows, bankShows};
 use answer::Answer;
 use room::Record;
 use room::record_at;
@@ -13,100 +14,100 @@ use state::is_size;
 // How many records a bank shows.
 const BANKED: u64 = 32;
 
-// The records of a room, as one bank shows them: `start` is the number of the bank's first record.
+// The records of a room, as one bank shows them: `first` is the number of the bank's first record.
 pub struct BankView<'a> {
     pub records: &'a [u64],
     pub size: u64,
-    pub start: u64,
+    pub first: u64,
 }
 
-// Record m of the bank that starts at `start`. No sum can wrap.
-fn record_from(records: &[u64], size: u64, start: u64, m: u64) -> Record
-    ensures { λ r. ⌜ r ≡ shownFrom size start m (now (records .entry)) ⌝ }
+// Record m of the bank whose first record has this number. No sum can wrap.
+fn record_from(records: &[u64], size: u64, first: u64, m: u64) -> Record
+    ensures { λ r. ⌜ r ≡ viewShows size first m (now (records .entry)) ⌝ }
 {
     if BANKED <= m {
         return Record::zero();
     }
-    if size <= start {
+    if size <= first {
         return Record::zero();
     }
-    if size - start <= m {
+    if size - first <= m {
         return Record::zero();
     }
-    record_at(records, size, m + start)
+    record_at(records, size, m + first)
 }
 
-fn inf_at(records: &[u64], size: u64, start: u64, m: u64) -> u64
-    ensures { λ r. ⌜ r ≡ shownFrom size start m (now (records .entry)) .inf ⌝ }
+fn inf_at(records: &[u64], size: u64, first: u64, m: u64) -> u64
+    ensures { λ r. ⌜ r ≡ viewShows size first m (now (records .entry)) .inf ⌝ }
 {
-    let r = record_from(records, size, start, m);
+    let r = record_from(records, size, first, m);
     r.inf
 }
 
-fn source_at(records: &[u64], size: u64, start: u64, m: u64) -> u64
-    ensures { λ r. ⌜ r ≡ shownFrom size start m (now (records .entry)) .source ⌝ }
+fn source_at(records: &[u64], size: u64, first: u64, m: u64) -> u64
+    ensures { λ r. ⌜ r ≡ viewShows size first m (now (records .entry)) .source ⌝ }
 {
-    let r = record_from(records, size, start, m);
+    let r = record_from(records, size, first, m);
     r.source
 }
 
-fn target_at(records: &[u64], size: u64, start: u64, m: u64) -> u64
-    ensures { λ r. ⌜ r ≡ shownFrom size start m (now (records .entry)) .target ⌝ }
+fn target_at(records: &[u64], size: u64, first: u64, m: u64) -> u64
+    ensures { λ r. ⌜ r ≡ viewShows size first m (now (records .entry)) .target ⌝ }
 {
-    let r = record_from(records, size, start, m);
+    let r = record_from(records, size, first, m);
     r.target
 }
 
 impl<'a> BankView<'a> {
-    pub fn new(records: &'a [u64], size: u64, start: u64) -> BankView<'a>
-        ensures { λ v. ⌜ (v .records ≡ records .entry) × (v .size ≡ size) × (v .start ≡ start) ⌝ }
+    pub fn new(records: &'a [u64], size: u64, first: u64) -> BankView<'a>
+        ensures { λ v. ⌜ (v .records ≡ records .entry) × (v .size ≡ size) × (v .first ≡ first) ⌝ }
     {
         BankView {
             records,
             size,
-            start,
+            first,
         }
     }
 
     // BRBINF of register m, or 0.
     pub fn inf(self, m: u64) -> u64
-        ensures { λ r. ⌜ r ≡ shownFrom (self .entry .size) (self .entry .start) m (now (self .entry .records)) .inf ⌝ }
+        ensures { λ r. ⌜ r ≡ viewShows (self .entry .size) (self .entry .first) m (now (self .entry .records)) .inf ⌝ }
     {
-        inf_at(self.records, self.size, self.start, m)
+        inf_at(self.records, self.size, self.first, m)
     }
 
     // BRBSRC of register m, or 0.
     pub fn source(self, m: u64) -> u64
-        ensures { λ r. ⌜ r ≡ shownFrom (self .entry .size) (self .entry .start) m (now (self .entry .records)) .source ⌝ }
+        ensures { λ r. ⌜ r ≡ viewShows (self .entry .size) (self .entry .first) m (now (self .entry .records)) .source ⌝ }
     {
-        source_at(self.records, self.size, self.start, m)
+        source_at(self.records, self.size, self.first, m)
     }
 
     // BRBTGT of register m, or 0.
     pub fn target(self, m: u64) -> u64
-        ensures { λ r. ⌜ r ≡ shownFrom (self .entry .size) (self .entry .start) m (now (self .entry .records)) .target ⌝ }
+        ensures { λ r. ⌜ r ≡ viewShows (self .entry .size) (self .entry .first) m (now (self .entry .records)) .target ⌝ }
     {
-        target_at(self.records, self.size, self.start, m)
+        target_at(self.records, self.size, self.first, m)
     }
 }
 
 // A view of a room, and one register of it.
-fn inf_viewed(room: &[u64], size: u64, start: u64, m: u64) -> u64
-    ensures { λ r. ⌜ r ≡ shownFrom size start m (now (room .entry)) .inf ⌝ }
+fn inf_viewed(room: &[u64], size: u64, first: u64, m: u64) -> u64
+    ensures { λ r. ⌜ r ≡ viewShows size first m (now (room .entry)) .inf ⌝ }
 {
-    BankView::new(room, size, start).inf(m)
+    BankView::new(room, size, first).inf(m)
 }
 
-fn source_viewed(room: &[u64], size: u64, start: u64, m: u64) -> u64
-    ensures { λ r. ⌜ r ≡ shownFrom size start m (now (room .entry)) .source ⌝ }
+fn source_viewed(room: &[u64], size: u64, first: u64, m: u64) -> u64
+    ensures { λ r. ⌜ r ≡ viewShows size first m (now (room .entry)) .source ⌝ }
 {
-    BankView::new(room, size, start).source(m)
+    BankView::new(room, size, first).source(m)
 }
 
-fn target_viewed(room: &[u64], size: u64, start: u64, m: u64) -> u64
-    ensures { λ r. ⌜ r ≡ shownFrom size start m (now (room .entry)) .target ⌝ }
+fn target_viewed(room: &[u64], size: u64, first: u64, m: u64) -> u64
+    ensures { λ r. ⌜ r ≡ viewShows size first m (now (room .entry)) .target ⌝ }
 {
-    BankView::new(room, size, start).target(m)
+    BankView::new(room, size, first).target(m)
 }
 
 // The number of the first refusal whose condition holds, or 0. The room is tested by a division, so that no size overflows.
@@ -123,9 +124,9 @@ fn refusal(room: &[u64], size: u64, bank: u64, m: u64) -> u64
     0
 }
 
-// The bank's first record. BANK has two bits.
-fn bank_start(bank: u64) -> u64
-    ensures { λ r. ⌜ r ≡ bankStart bank ⌝ }
+// The number of the bank's first record. BANK has two bits: a larger number is refused, and here must only not overflow.
+fn bank_first(bank: u64) -> u64
+    ensures { λ r. ⌜ r ≡ 32 * (bank % 4) ⌝ }
 {
     BANKED * (bank % 4)
 }
@@ -144,7 +145,7 @@ fn answered(refusal: u64, value: u64) -> Answer
 pub fn bank_inf(room: &[u64], size: u64, bank: u64, m: u64) -> Answer
     ensures { λ r. ⌜ r ≡ bankShows (λ x. x .inf) size bank m (now (room .entry)) ⌝ }
 {
-    let value = inf_viewed(room, size, bank_start(bank), m);
+    let value = inf_viewed(room, size, bank_first(bank), m);
     answered(refusal(room, size, bank, m), value)
 }
 
@@ -152,7 +153,7 @@ pub fn bank_inf(room: &[u64], size: u64, bank: u64, m: u64) -> Answer
 pub fn bank_source(room: &[u64], size: u64, bank: u64, m: u64) -> Answer
     ensures { λ r. ⌜ r ≡ bankShows (λ x. x .source) size bank m (now (room .entry)) ⌝ }
 {
-    let value = source_viewed(room, size, bank_start(bank), m);
+    let value = source_viewed(room, size, bank_first(bank), m);
     answered(refusal(room, size, bank, m), value)
 }
 
@@ -160,6 +161,6 @@ pub fn bank_source(room: &[u64], size: u64, bank: u64, m: u64) -> Answer
 pub fn bank_target(room: &[u64], size: u64, bank: u64, m: u64) -> Answer
     ensures { λ r. ⌜ r ≡ bankShows (λ x. x .target) size bank m (now (room .entry)) ⌝ }
 {
-    let value = target_viewed(room, size, bank_start(bank), m);
+    let value = target_viewed(room, size, bank_first(bank), m);
     answered(refusal(room, size, bank, m), value)
 }

@@ -1,4 +1,5 @@
--- Bits and fields of a number, and membership of a list: the words in which every other definition is written.
+-- Bits and fields of a number, in Arm's notation, and membership of a list: the words in which the other definitions are
+-- written. Bit 0 is the lowest.
 use Prim.Native.Nat.{ℕ, _+_, _*_, _-_, _^_, _/_, _%_}
 use mathlib.Core.Bool.{Bool, false, _||_}
 use mathlib.Core.List.{List, [], _∷_}
@@ -13,11 +14,11 @@ bit k x = x / 2 ^ k % 2
 abbrev pub isSet : ℕ → ℕ → Bool
 isSet k x = eqb (bit k x) 1
 
--- Bits hi:lo of x, as Arm writes a field.
+-- Bits hi:lo of x, as Arm writes a field: hi is not below lo.
 abbrev pub part : ℕ → ℕ → ℕ → ℕ
 part hi lo x = x / 2 ^ lo % 2 ^ (hi - lo + 1)
 
--- x as the field at bits hi:lo of a number that is 0 elsewhere.
+-- x as the field at bits hi:lo of a number that is 0 elsewhere. Bits of x that the field has no place for are dropped.
 abbrev pub put : ℕ → ℕ → ℕ → ℕ
 put hi lo x = x % 2 ^ (hi - lo + 1) * 2 ^ lo
 

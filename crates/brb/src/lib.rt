@@ -2,12 +2,12 @@
 // what each number means. Everything is decided below: this crate holds exports only.
 ghost use mathlib.Core.Path.{_≡_};
 ghost use Rattle.answer.specs.Answer.{returned};
-ghost use Rattle.count.specs.Count.{encoded, decoded, answerOf};
+ghost use Rattle.count.specs.Count.{encoded, decoded, decodedAnswer};
 ghost use Rattle.bank.specs.Bank.{bankShows};
 ghost use Rattle.recording.specs.Recording.{numbers, writingOf, writtenOperation};
-ghost use Rattle.recorder.specs.Left.{leaves};
-ghost use Rattle.brb.specs.Face.{stepLeaves};
-ghost use Rattle.brb.specs.Recordings.{readLeft, readLeaves, returnedAt, recordedLeaves};
+ghost use Rattle.recorder.specs.Result.{together};
+ghost use Rattle.brb.specs.Face.{stepResult};
+ghost use Rattle.brb.specs.Recordings.{readInto, readResult, returnedAt, recordedResult};
 use answer::Answer;
 use answer::Returned;
 use bank::bank_inf;
@@ -35,7 +35,7 @@ pub extern "C" fn brb_step(
     c: u64,
     d: u64,
 ) -> Returned
-    ensures { λ r. ⌜ leaves r (now (state .exit)) (now (room .exit)) ≡ stepLeaves (now (state .entry)) code cycles a b c d (now (room .entry)) ⌝ }
+    ensures { λ r. ⌜ together r (now (state .exit)) (now (room .exit)) ≡ stepResult (now (state .entry)) code cycles a b c d (now (room .entry)) ⌝ }
 {
     let answer = lent_step(state, room, operation_of(code, a, b, c, d), cycles);
     answer.returned()
@@ -49,7 +49,7 @@ pub extern "C" fn brb_read(
     cycles: u64,
     register: u64,
 ) -> Returned
-    ensures { λ r. ⌜ leaves r (now (state .exit)) (now (room .exit)) ≡ stepLeaves (now (state .entry)) 5 cycles register 0 0 0 (now (room .entry)) ⌝ }
+    ensures { λ r. ⌜ together r (now (state .exit)) (now (room .exit)) ≡ stepResult (now (state .entry)) 5 cycles register 0 0 0 (now (room .entry)) ⌝ }
 {
     brb_step(state, room, 5, cycles, register, 0, 0, 0)
 }
@@ -65,7 +65,7 @@ pub extern "C" fn brb_count_encode(n: u64) -> u64
 // What a CC field says.
 #[no_mangle]
 pub extern "C" fn brb_count_decode(cc: u64) -> Returned
-    ensures { λ r. ⌜ r ≡ returned (answerOf (decoded cc)) ⌝ }
+    ensures { λ r. ⌜ r ≡ returned (decodedAnswer (decoded cc)) ⌝ }
 {
     let decoded = count::decode(cc);
     decoded.answer().returned()
@@ -119,7 +119,7 @@ fn returned_at(answer: Answer, next: usize) -> BrbRecorded
 // The operation at a place of a recording, as six numbers in a lent place.
 #[no_mangle]
 pub extern "C" fn brb_recording_read(bytes: &[u8], at: usize, place: &mut [u64]) -> Returned
-    ensures { λ r. ⌜ readLeft r (now (place .exit)) ≡ readLeaves (now (bytes .entry)) at (now (place .entry)) ⌝ }
+    ensures { λ r. ⌜ readInto r (now (place .exit)) ≡ readResult (now (bytes .entry)) at (now (place .entry)) ⌝ }
 {
     if place.len() < 6 {
         return Answer::Refused(6).returned();
@@ -129,8 +129,7 @@ pub extern "C" fn brb_recording_read(bytes: &[u8], at: usize, place: &mut [u64])
             store_numbers(place, x);
             Answer::Value(next as u64).returned()
         }
-        Reading::Malformed(_) => Answer::Refused(1).returned(),
-        Reading::UnknownCode(_) => Answer::Refused(2).returned(),
+        Reading::Refused(number, _) => Answer::Refused(number).returned(),
     }
 }
 
@@ -161,7 +160,7 @@ pub extern "C" fn brb_step_recorded(
     bytes: &[u8],
     at: usize,
 ) -> BrbRecorded
-    ensures { λ r. ⌜ leaves r (now (state .exit)) (now (room .exit)) ≡ recordedLeaves (now (state .entry)) (now (room .entry)) (now (bytes .entry)) at ⌝ }
+    ensures { λ r. ⌜ together r (now (state .exit)) (now (room .exit)) ≡ recordedResult (now (state .entry)) (now (room .entry)) (now (bytes .entry)) at ⌝ }
 {
     let loaded = load(&state[..]);
     let Loaded::Held(_) = loaded else {
@@ -173,7 +172,6 @@ pub extern "C" fn brb_step_recorded(
             let answer = lent_step(state, room, o, x.cycles);
             returned_at(answer, next)
         }
-        Reading::Malformed(place) => returned_at(Answer::Refused(1), place),
-        Reading::UnknownCode(place) => returned_at(Answer::Refused(2), place),
+        Reading::Refused(number, place) => returned_at(Answer::Refused(number), place),
     }
 }

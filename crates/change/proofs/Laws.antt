@@ -1,38 +1,36 @@
 -- What holds of every effect but a reset's holds of the effect of every operation but a reset.
 use Prim.Native.Nat.{ℕ}
 use mathlib.Core.Path.{_≡_}
-use mathlib.Core.Bool.{Bool, true, false, cond, _&&_, not}
+use mathlib.Core.Bool.{Bool, true, false, cond}
 use lib.Dec.{eqb}
 use Rattle.bits.proofs.Cases.{never}
 use Rattle.answer.specs.Answer.{isDone}
 use Rattle.state.specs.declared.State.{State}
 use Rattle.state.specs.declared.Running.{Running}
-use Rattle.state.specs.Named.{PAUSED}
 use Rattle.room.specs.declared.Effect.{Effect}
 use Rattle.room.specs.declared.Effect.the-variants.{Keep, Push, Clear}
 use Rattle.event.specs.declared.Event.{Event}
-use Rattle.event.specs.Event.{valid, recordOf, made}
+use Rattle.event.specs.Event.{recordOf, becomesRecord, eventEffect}
 use Rattle.access.specs.Access.{iallOutcome}
 use Rattle.operation.specs.declared.Operation.{Operation}
 use Rattle.operation.specs.declared.Operation.the-variants.{Reset, Branch, Exception, Return, Platform, Read, Write, Iall, Unknown}
 use Rattle.operation.specs.Operation.{codeOf}
-use Rattle.change.specs.Change.{askedOf, effectOf}
+use Rattle.change.specs.Change.{effectOf}
 
 module _ (P : Effect → Type 0) (s : State) (r : Running) (keep : P Keep) (clear : P Clear) (push : (e : Event) → P (Push (recordOf s r e))) where
   one-of : (t : Bool) {x y : Effect} → P x → P y → P (cond t x y)
   one-of true a b = a
   one-of false a b = b
 
-  of-made : (wanted : Bool) (e : Event) → P (made s r wanted e)
-  unfolding made
-  of-made wanted e = one-of (wanted && not (PAUSED s) && not (eqb (valid s e) 0)) (push e) keep
+  of-event : (wanted : Bool) (e : Event) → P (eventEffect s r wanted e)
+  of-event wanted e = one-of (becomesRecord s wanted e) (push e) keep
 
   pub of-effect : (o : Operation) → eqb (codeOf o) 0 ≡ false → P (effectOf s o r)
-  unfolding effectOf askedOf
+  unfolding effectOf
   of-effect (Reset size v1p1) h = never (cc)
-  of-effect (Branch kind m source target) h = of-made _ _
-  of-effect (Exception kind level source target) h = of-made _ _
-  of-effect (Return level m source target) h = of-made _ _
+  of-effect (Branch kind m source target) h = of-event _ _
+  of-effect (Exception kind level source target) h = of-event _ _
+  of-effect (Return level m source target) h = of-event _ _
   of-effect (Platform p) h = keep
   of-effect (Read k) h = keep
   of-effect (Write k value) h = keep

@@ -1,18 +1,22 @@
-// What an accepted operation changes: level, P and registers, the running count, and the records (document 01, "Operations"
-// and "Cycles").
+// What an accepted operation changes: level, P and registers, the running count, and the records (document 01, "Operations",
+// "Which events become records" and "Cycles").
 ghost use mathlib.Core.Path.{_≡_};
-ghost use mathlib.Core.Bool.{cond};
+ghost use mathlib.Core.Bool.{false, cond};
 ghost use Rattle.answer.specs.Answer.{isDone};
 ghost use Rattle.access.specs.Access.{writeOutcome, iallOutcome, meant, registerWritten};
+ghost use Rattle.event.specs.Event.{controlled, recordOf, becomesRecord};
+ghost use Rattle.filter.specs.Filter.{chosen};
 ghost use Rattle.operation.specs.Changed.{changed};
-ghost use Rattle.change.specs.Change.{occasion, passed, starting, askedOf, effectOf, runningAfter};
+ghost use Rattle.change.specs.Change.{occasion, passed, eventFrom, effectOf, runningAfter};
 use access::iall_outcome;
 use access::meant;
 use access::register_written;
 use access::write_outcome;
 use event::Event;
-use event::controlled;
-use event::made;
+use event::becomes_record;
+use event::exception_controlled;
+use event::record_of;
+use event::return_controlled;
 use filter::BranchType;
 use operation::Operation;
 use region::prohibited;
@@ -20,19 +24,15 @@ use room::Effect;
 use state::Running;
 use state::State;
 
-// Bits of BRBCR_EL1 and of BRBCR_EL2, each as the power of two that it weighs.
-const EXCEPTION: u64 = 0x80_0000;
-
-const ERTN: u64 = 0x40_0000;
-
 // The type of an exception return.
 const RETURN: u64 = 7;
 
-// What an operation asks of the records.
-pub enum Asked {
-    // An event, and what its filter or control says of it.
-    Happens(bool, Event),
-    Plain(Effect),
+// What an operation asks of the records: an event and whether it is wanted, and what happens where it becomes no record. An
+// operation that is no event asks for one that is not wanted.
+struct Asked {
+    wanted: bool,
+    event: Event,
+    otherwise: Effect,
 }
 
 // The state after a write, performed or not.
@@ -83,9 +83,15 @@ pub fn passed(s: State, after: State, cycles: u64) -> Running
     running::passed(r, occasion(s, after), cycles)
 }
 
-// "An event starts at the current level."
-fn starting(s: State, kind: u64, mispredicted: u64, entered: u64, source: u64, target: u64) -> Event
-    ensures { λ e. ⌜ e ≡ starting s kind mispredicted entered source target ⌝ }
+fn event_from(
+    s: State,
+    kind: u64,
+    mispredicted: u64,
+    entered: u64,
+    source: u64,
+    target: u64,
+) -> Event
+    ensures { λ e. ⌜ e ≡ eventFrom s kind mispredicted entered source target ⌝ }
 {
     Event {
         kind,
@@ -97,37 +103,54 @@ fn starting(s: State, kind: u64, mispredicted: u64, entered: u64, source: u64, t
     }
 }
 
+fn ask(wanted: bool, event: Event, otherwise: Effect) -> Asked
+    ensures { λ x. ⌜ x ≡ record { wanted = wanted; event = event; otherwise = otherwise } ⌝ }
+{
+    Asked {
+        wanted,
+        event,
+        otherwise,
+    }
+}
+
+// An operation that is no event.
+fn no_event(s: State, effect: Effect) -> Asked
+    ensures { λ x. ⌜ x ≡ record { wanted = false; event = eventFrom s 0 0 0 0 0; otherwise = effect } ⌝ }
+{
+    ask(false, event_from(s, 0, 0, 0, 0, 0), effect)
+}
+
+// A branch stays at its level, and the filter says whether it is wanted.
 fn branch_asked(s: State, kind: u64, mispredicted: u64, source: u64, target: u64) -> Asked
-    ensures { λ x. ⌜ x ≡ askedOf s (Operation.Branch kind mispredicted source target) ⌝ }
+    ensures { λ x. ⌜ x ≡ record { wanted = chosen (s .brbfcr) (record { code = kind }); event = eventFrom s kind mispredicted (s .level) source target; otherwise = Effect.Keep } ⌝ }
 {
     let t = BranchType { code: kind };
-    let chosen = t.chosen(s.brbfcr);
-    Asked::Happens(
-        chosen,
-        starting(s, kind, mispredicted, s.level, source, target),
-    )
+    let wanted = t.chosen(s.brbfcr);
+    let event = event_from(s, kind, mispredicted, s.level, source, target);
+    ask(wanted, event, Effect::Keep)
 }
 
 // An exception is controlled by the level that it enters.
 fn exception_asked(s: State, kind: u64, level: u64, source: u64, target: u64) -> Asked
-    ensures { λ x. ⌜ x ≡ askedOf s (Operation.Exception kind level source target) ⌝ }
+    ensures { λ x. ⌜ x ≡ record { wanted = controlled 23 s level; event = eventFrom s kind 0 level source target; otherwise = Effect.Keep } ⌝ }
 {
-    let el1 = s.brbcr1 / EXCEPTION % 2 == 1;
-    let el2 = s.brbcr2 / EXCEPTION % 2 == 1;
-    let wanted = controlled(s, level, el1, el2);
-    Asked::Happens(wanted, starting(s, kind, 0, level, source, target))
+    let wanted = exception_controlled(s, level);
+    ask(
+        wanted,
+        event_from(s, kind, 0, level, source, target),
+        Effect::Keep,
+    )
 }
 
 // A return is controlled by the level that it leaves.
 fn return_asked(s: State, level: u64, mispredicted: u64, source: u64, target: u64) -> Asked
-    ensures { λ x. ⌜ x ≡ askedOf s (Operation.Return level mispredicted source target) ⌝ }
+    ensures { λ x. ⌜ x ≡ record { wanted = controlled 22 s (s .level); event = eventFrom s 7 mispredicted level source target; otherwise = Effect.Keep } ⌝ }
 {
-    let el1 = s.brbcr1 / ERTN % 2 == 1;
-    let el2 = s.brbcr2 / ERTN % 2 == 1;
-    let wanted = controlled(s, s.level, el1, el2);
-    Asked::Happens(
+    let wanted = return_controlled(s);
+    ask(
         wanted,
-        starting(s, RETURN, mispredicted, level, source, target),
+        event_from(s, RETURN, mispredicted, level, source, target),
+        Effect::Keep,
     )
 }
 
@@ -142,11 +165,12 @@ fn iall_effect(s: State) -> Effect
     }
 }
 
+// What an operation asks of the records. For any running count it comes to what the operation does to them.
 fn asked_of(s: State, o: Operation) -> Asked
-    ensures { λ x. ⌜ x ≡ askedOf s o ⌝ }
+    ensures { λ x. ⌜ ((r : Running) → cond (becomesRecord s (x .wanted) (x .event)) (Effect.Push (recordOf s r (x .event))) (x .otherwise) ≡ effectOf s o r) ⌝ }
 {
     match o {
-        Operation::Reset { size, .. } => Asked::Plain(Effect::Start(size)),
+        Operation::Reset { size, .. } => no_event(s, Effect::ResetTo(size)),
         Operation::Branch {
             kind,
             mispredicted,
@@ -165,23 +189,25 @@ fn asked_of(s: State, o: Operation) -> Asked
             source,
             target,
         } => { return_asked(s, target_level, mispredicted, source, target) }
-        Operation::Platform { .. } => Asked::Plain(Effect::Keep),
-        Operation::Read { .. } => Asked::Plain(Effect::Keep),
-        Operation::Write { .. } => Asked::Plain(Effect::Keep),
-        Operation::Iall => Asked::Plain(iall_effect(s)),
-        Operation::Unknown => Asked::Plain(Effect::Keep),
+        Operation::Platform { .. } => no_event(s, Effect::Keep),
+        Operation::Read { .. } => no_event(s, Effect::Keep),
+        Operation::Write { .. } => no_event(s, Effect::Keep),
+        Operation::Iall => no_event(s, iall_effect(s)),
+        Operation::Unknown => no_event(s, Effect::Keep),
     }
 }
 
 // What an operation does to the records, where the running count is r with its cycles in it. All events come to one call
-// of `made`, so that the compiler keeps what it decides in registers.
+// of `record_of`, so that the compiler keeps what it decides in registers.
 pub fn effect_of(s: State, o: Operation, r: Running) -> Effect
     ensures { λ x. ⌜ x ≡ effectOf s o r ⌝ }
 {
     let asks = asked_of(s, o);
-    match asks {
-        Asked::Happens(wanted, e) => made(s, r, wanted, e),
-        Asked::Plain(effect) => effect,
+    let event = asks.event;
+    if becomes_record(s, asks.wanted, event) {
+        Effect::Push(record_of(s, r, event))
+    } else {
+        asks.otherwise
     }
 }
 
@@ -195,7 +221,7 @@ pub fn running_after(effect: Effect, r: Running) -> Running
             unknown: 0,
         },
         Effect::Clear => r,
-        Effect::Start(_) => Running {
+        Effect::ResetTo(_) => Running {
             count: 0,
             unknown: 1,
         },

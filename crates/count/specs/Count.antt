@@ -1,4 +1,5 @@
--- Document 01, "Cycles", second paragraph; Arm's BRBINF<n>_EL1.CC: CC is 256E + M.
+-- A cycle count in BRBINF's field CC: eight bits of mantissa M below six bits of exponent E. Document 01, "Cycles", second
+-- paragraph; docs/MANUAL.md, "Cycles"; Arm's BRBINF<n>_EL1.CC.
 use Prim.Native.Nat.{ℕ, zero, suc, _+_, _*_, _-_, _^_, _/_, _%_}
 use mathlib.Core.Bool.{cond}
 use lib.Dec.{leb, ltb, eqb}
@@ -6,41 +7,43 @@ use Rattle.answer.specs.declared.Answer.{Answer}
 use Rattle.count.specs.declared.Decoded.{Decoded}
 use Rattle.count.specs.declared.Decoded.the-variants.{Known, Exceeded, Refused}
 
--- R_HQXNW, BRBIDR0_EL1.CC = 0b0101: the cycle counter has 20 bits.
+-- The largest count of a cycle counter of 20 bits: R_HQXNW, BRBIDR0_EL1.CC is 0b0101.
 abbrev pub largestCount : ℕ
 largestCount = 1048575
 
--- R_XGSSZ: CC all ones says that the count exceeded the counter.
+-- CC with all its bits set says that the count went past the counter: R_XGSSZ.
 abbrev pub exceeded : ℕ
 exceeded = 0x3FFF
 
--- The bit length of n, of at most k bits: the k of the largest power 2^(k-1) that is not above n, or 0.
+-- How many binary digits n has, where it has at most k: k where its digit of weight 2^(k-1) is there, else those of at most
+-- k-1. 0 has none.
 unfoldable pub bitLength : ℕ → ℕ → ℕ
 bitLength zero n = 0
 bitLength (suc k) n = cond (leb (2 ^ k) n) (suc k) (bitLength k n)
 
--- "Below 256, E is 0. Otherwise E is the count's bit length less 8."
+-- E: 0 for a count below 256, which needs no rounding; for a larger one the number of its digits past the first eight.
 unfoldable pub exponent : ℕ → ℕ
 exponent n = cond (ltb n 256) 0 (bitLength 64 n - 8)
 
--- "Below 256, M is the count. Otherwise M is the count divided by 2^(E-1), rounded down, less 256."
+-- M: a count below 256 itself; of a larger one the eight digits after the first, which is always 1 and is left out (256).
+-- The lower E-1 digits are dropped: a count is rounded towards zero.
 unfoldable pub mantissa : ℕ → ℕ
 mantissa n = cond (ltb n 256) n (n / 2 ^ (exponent n - 1) - 256)
 
--- "CC is 256E + M. Above 1,048,575: 0x3FFF." R_JZWPG, R_XGSSZ.
+-- CC of a count: E above M where the counter holds it (R_JZWPG), else all ones (R_XGSSZ).
 unfoldable pub encoded : ℕ → ℕ
 encoded n = cond (leb n largestCount) (256 * exponent n + mantissa n) exceeded
 
--- "M for E 0; (256 + M) times 2^(E-1) for E 1 to 12." Arm: if IsZero(E) then UInt(M) else UInt('1':M:Zeros(UInt(E)-1)).
+-- The count that E and M stand for. Arm: if IsZero(E) then UInt(M) else UInt('1':M:Zeros(UInt(E)-1)).
 unfoldable pub countOf : ℕ → ℕ → ℕ
 countOf e m = cond (eqb e 0) m ((256 + m) * 2 ^ (e - 1))
 
--- "'Exceeded' for 0x3FFF; anything else refusal 4."
+-- What a CC says. A count of 20 bits has no E above 12, so that such a CC, but for all ones, says nothing.
 unfoldable pub decoded : ℕ → Decoded
 decoded cc = cond (eqb cc exceeded) Exceeded (cond (leb (cc / 256) 12) (Known (countOf (cc / 256) (cc % 256))) Refused)
 
--- Its answer: the count, or refusal 4. Exceeded is 1,048,576, which no known count is.
-abbrev pub answerOf : Decoded → Answer
-answerOf (Known n) = Answer.Value n
-answerOf Exceeded = Answer.Value 1048576
-answerOf Refused = Answer.Refused 4
+-- The answer of decoding: the count; 1,048,576, which no known count is, where it exceeded the counter; or refusal 4.
+abbrev pub decodedAnswer : Decoded → Answer
+decodedAnswer (Known n) = Answer.Value n
+decodedAnswer Exceeded = Answer.Value 1048576
+decodedAnswer Refused = Answer.Refused 4

@@ -1,6 +1,6 @@
 // The encoding of a cycle count in BRBINF's CC field (document 01, "Cycles"; BRBINF<n>_EL1.CC).
 ghost use mathlib.Core.Path.{_≡_};
-ghost use Rattle.count.specs.Count.{encoded, decoded, answerOf};
+ghost use Rattle.count.specs.Count.{encoded, decoded, decodedAnswer};
 use answer::Answer;
 
 // What a CC value says of the count.
@@ -57,7 +57,7 @@ pub fn decode(cc: u64) -> Decoded
 impl Decoded {
     // As document 01 answers: a value, or refusal 4. A count that exceeded the counter has 1,048,576, which no known count is.
     pub fn answer(self) -> Answer
-        ensures { λ r. ⌜ r ≡ answerOf self ⌝ }
+        ensures { λ r. ⌜ r ≡ decodedAnswer self ⌝ }
     {
         match self {
             Decoded::Known(n) => Answer::Value(n),

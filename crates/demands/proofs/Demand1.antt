@@ -1,5 +1,5 @@
--- Demand 1. "Bad input is refused by the outline's numbers, in its order. A refused operation changes no state and no lent
--- number."
+-- Demand 1: bad input is refused with the number of the first line of the table that it meets, and a refused operation changes
+-- neither the state nor any lent number.
 use Prim.Native.Nat.{ℕ, _≤_}
 use mathlib.Core.Path.{_≡_, refl}
 use mathlib.Core.Bool.{Bool, true, false, cond, _||_}
@@ -12,7 +12,7 @@ use Rattle.state.specs.declared.State.{State}
 use Rattle.state.specs.declared.Loaded.{Loaded}
 use Rattle.state.specs.declared.Loaded.the-variants.{Held, Unsound}
 use Rattle.state.specs.Words.{loaded}
-use Rattle.state.proofs.Laws.{held, kept}
+use Rattle.state.proofs.Laws.{kept}
 use Rattle.answer.specs.declared.Answer.{Answer}
 use Rattle.answer.specs.declared.Answer.the-variants.{Done, Value, Undefined, Trap2, Trap3}
 use Rattle.answer.specs.Answer.{returned, isDone}
@@ -24,11 +24,10 @@ use Rattle.operation.specs.Refusal.{firstThat, table, refusalOf}
 use Rattle.recorder.specs.Step.{answerOf, accepted, refused, stepOf}
 use Rattle.recorder.proofs.Laws.{accepted-step, refused-step}
 use Rattle.recording.specs.declared.Reading.{Reading}
-use Rattle.recording.specs.declared.Reading.the-variants.{Malformed, UnknownCode}
 use Rattle.recording.specs.Recording.{operationAt}
-use Rattle.recording.specs.RecordedStep.{recordedStep}
-use Rattle.brb.specs.Face.{stepLeaves}
-use Rattle.brb.specs.Recordings.{recordedLeaves}
+use Rattle.recorder.specs.Lent.{lentStep}
+use Rattle.brb.specs.Face.{stepResult}
+use Rattle.brb.specs.Recordings.{recordedResult}
 use Rattle.demands.specs.Unchanged.{unchanged, unchangedRecorded}
 use Rattle.demands.specs.First.{First, here, later, none}
 
@@ -105,34 +104,32 @@ refusal-answered s o cycles room l u = go (ℕ-discrete (refusalOf s o (length r
 -- `refused-changes-nothing`: whatever is lent and handed in, if the number is 1 to 7, then every state number and every room
 -- number is as it was, and the value is 0.
 pub refused-changes-nothing : (words room : List ℕ) (code cycles a b c d : ℕ)
-    → 1 ≤ stepLeaves words code cycles a b c d room .answer .number
-    → stepLeaves words code cycles a b c d room .answer .number ≤ 7
-    → stepLeaves words code cycles a b c d room ≡ unchanged words room (stepLeaves words code cycles a b c d room)
-unfolding stepLeaves
+    → 1 ≤ stepResult words code cycles a b c d room .answer .number
+    → stepResult words code cycles a b c d room .answer .number ≤ 7
+    → stepResult words code cycles a b c d room ≡ unchanged words room (stepResult words code cycles a b c d room)
+unfolding stepResult lentStep
 refused-changes-nothing words room code cycles a b c d l u = go (loaded words) refl
   where
     go : (found : Loaded) → loaded words ≡ found
-        → stepLeaves words code cycles a b c d room ≡ unchanged words room (stepLeaves words code cycles a b c d room)
+        → stepResult words code cycles a b c d room ≡ unchanged words room (stepResult words code cycles a b c d room)
     go Unsound e = rw e
     go (Held s) e =
         rw (e, refusal-answered s (operationOf code a b c d) cycles room (rw e at l) (rw e at u), kept words s e)
 
 -- The same of a recorded step.
-pub refused-recorded : (words room bytes : List ℕ) (at : ℕ) → 1 ≤ recordedLeaves words room bytes at .answer .number
-    → recordedLeaves words room bytes at .answer .number ≤ 7
-    → recordedLeaves words room bytes at ≡ unchangedRecorded words room (recordedLeaves words room bytes at)
-unfolding recordedLeaves recordedStep
+pub refused-recorded : (words room bytes : List ℕ) (at : ℕ) → 1 ≤ recordedResult words room bytes at .answer .number
+    → recordedResult words room bytes at .answer .number ≤ 7
+    → recordedResult words room bytes at ≡ unchangedRecorded words room (recordedResult words room bytes at)
+unfolding recordedResult
 refused-recorded words room bytes at l u = go (loaded words) refl
   where
     read : (s : State) → loaded words ≡ Held s → (found : Reading) → operationAt bytes at ≡ found
-        → recordedLeaves words room bytes at ≡ unchangedRecorded words room (recordedLeaves words room bytes at)
+        → recordedResult words room bytes at ≡ unchangedRecorded words room (recordedResult words room bytes at)
     read s e (Reading.Operation x next) f =
-        let h = held words s e .1 in
-        rw (e, h, f, refusal-answered s (operationOf (x .code) (x .a) (x .b) (x .c) (x .d)) (x .cycles) room (rw (e, h, f) at l) (rw (e, h, f) at u), kept words s e)
-    read s e (Malformed place) f = rw (e, held words s e .1, f, kept words s e)
-    read s e (UnknownCode place) f = rw (e, held words s e .1, f, kept words s e)
+        rw (e, f, refusal-answered s (operationOf (x .code) (x .a) (x .b) (x .c) (x .d)) (x .cycles) room (rw (e, f) at l) (rw (e, f) at u), kept words s e)
+    read s e (Reading.Refused number place) f = rw (e, f, kept words s e)
 
     go : (found : Loaded) → loaded words ≡ found
-        → recordedLeaves words room bytes at ≡ unchangedRecorded words room (recordedLeaves words room bytes at)
+        → recordedResult words room bytes at ≡ unchangedRecorded words room (recordedResult words room bytes at)
     go Unsound e = rw e
     go (Held s) e = read s e (operationAt bytes at) refl

@@ -17,12 +17,12 @@ use Rattle.state.specs.declared.Running.{Running}
 use Rattle.state.specs.Named.{PAUSED, predictionShown, BANK}
 use Rattle.room.specs.declared.Record.{Record}
 use Rattle.room.specs.declared.Effect.{Effect}
-use Rattle.room.specs.declared.Effect.the-variants.{Keep, Push, Clear, Start}
+use Rattle.room.specs.declared.Effect.the-variants.{Keep, Push, Clear, ResetTo}
 use Rattle.room.specs.Room.{zeroRecord, records, numbered, needed, roomAfter}
 use Rattle.room.proofs.Laws.{sizeAfterEffect, length-records, records-pushed, records-cleared}
 use Rattle.region.specs.Region.{prohibited}
 use Rattle.event.specs.declared.Event.{Event}
-use Rattle.event.specs.Event.{valid, countUnknown, MPRED, packed, BRBINF, recordOf, made}
+use Rattle.event.specs.Event.{valid, countUnknown, MPRED, packed, BRBINF, recordOf, becomesRecord, eventEffect}
 use Rattle.answer.specs.Answer.{isDone}
 use Rattle.access.specs.Access.{iallOutcome, shownRecord, shownNumber, registerValue}
 use Rattle.operation.specs.declared.Operation.{Operation}
@@ -31,7 +31,7 @@ use Rattle.operation.specs.Refusal.{notReset, refusalOf}
 use Rattle.operation.specs.Changed.{changed}
 use Rattle.operation.proofs.Size.{Resets, is-reset, no-reset, resets, size-kept}
 use Rattle.operation.proofs.Laws.{accepts, sized}
-use Rattle.change.specs.Change.{passed, askedOf, effectOf}
+use Rattle.change.specs.Change.{passed, effectOf}
 use Rattle.change.proofs.Laws.{of-effect}
 use Rattle.recorder.specs.Step.{accepted, stepOf}
 use Rattle.recorder.proofs.Laws.{accepted-step, refused-step}
@@ -44,13 +44,13 @@ never-wanted true new other = refl
 never-wanted false new other = refl
 
 made-none : (s : State) (r : Running) (wanted : Bool) (e : Event) → prohibited s (e .left) ≡ true → prohibited s (e .entered) ≡ true
-    → made s r wanted e ≡ Keep
-unfolding made valid
+    → eventEffect s r wanted e ≡ Keep
+unfolding becomesRecord valid
 made-none s r wanted e source target = rw (source, target) (never-wanted (wanted && not (PAUSED s)) _ _)
 
 effect-inside : (s : State) {o : Operation} (r : Running) (e : IsEvent o) → prohibited s (s .level) ≡ true
     → prohibited s (entered s e) ≡ true → effectOf s o r ≡ Keep
-unfolding effectOf askedOf
+unfolding effectOf
 effect-inside s r branch source target = made-none s r _ _ source target
 effect-inside s r exception source target = made-none s r _ _ source target
 effect-inside s r return source target = made-none s r _ _ source target
@@ -87,9 +87,8 @@ fields ccu cc kind level mpred valid =
     }
 
 -- A record that was made is the one defined.
-made-record : (s : State) (r : Running) (wanted : Bool) (e : Event) (new : Record) → made s r wanted e ≡ Push new → new ≡ recordOf s r e
-unfolding made
-made-record s r wanted e new h = go (wanted && not (PAUSED s) && not (eqb (valid s e) 0)) h
+made-record : (s : State) (r : Running) (wanted : Bool) (e : Event) (new : Record) → eventEffect s r wanted e ≡ Push new → new ≡ recordOf s r e
+made-record s r wanted e new h = go (becomesRecord s wanted e) h
   where
     go : (t : Bool) → cond t (Push (recordOf s r e)) Keep ≡ Push new → new ≡ recordOf s r e
     go true p = cc
@@ -129,7 +128,7 @@ record-hidden s r e =
 -- Only an event makes a record, and that record hides what is prohibited.
 pub hidden-address-zero : (s : State) {o : Operation} (r : Running) (e : IsEvent o) (new : Record) → effectOf s o r ≡ Push new
     → Hidden s (s .level) (entered s e) new
-unfolding effectOf askedOf
+unfolding effectOf
 hidden-address-zero s r branch new h = rw (made-record s r _ _ new h) (record-hidden s r _)
 hidden-address-zero s r exception new h = rw (made-record s r _ _ new h) (record-hidden s r _)
 hidden-address-zero s r return new h = rw (made-record s r _ _ new h) (record-hidden s r _)
@@ -138,7 +137,7 @@ hidden-address-zero s r return new h = rw (made-record s r _ _ new h) (record-hi
 
 -- The size that refusal 6 judges by is the size after the effect.
 size-after : (s : State) (o : Operation) (r : Running) → changed s o .size ≡ sizeAfterEffect (s .size) (effectOf s o r)
-unfolding effectOf askedOf changed
+unfolding effectOf changed
 size-after s o r = go (resets o)
   where
     go : {o : Operation} → Resets o → changed s o .size ≡ sizeAfterEffect (s .size) (effectOf s o r)
@@ -147,7 +146,7 @@ size-after s o r = go (resets o)
 
 -- Only an event makes a record, and it needs a reset before it.
 pub pushed-by : (s : State) (o : Operation) (r : Running) (new : Record) → effectOf s o r ≡ Push new → IsEvent o
-unfolding effectOf askedOf
+unfolding effectOf
 pushed-by s (Reset size v1p1) r new h = never (cc)
 pushed-by s (Branch kind m source target) r new h = branch
 pushed-by s (Exception kind level source target) r new h = exception
@@ -175,7 +174,7 @@ unfolding roomAfter recordsAfter
 effect-records size Keep room one enough = refl
 effect-records size (Push new) room one enough = records-pushed size new room (one new refl) enough
 effect-records size Clear room one enough = records-cleared size room enough
-effect-records size (Start n) room one enough = records-cleared n room enough
+effect-records size (ResetTo n) room one enough = records-cleared n room enough
 
 -- After an accepted operation the records are exactly those that its effect makes of the records before it: the new record in
 -- front and the oldest lost, or the list unchanged, or all zero. Which of them, and every field of the new record, is

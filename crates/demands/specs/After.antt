@@ -5,26 +5,26 @@ use lib.ListN.{take, replicate}
 use Rattle.state.specs.declared.State.{State}
 use Rattle.room.specs.declared.Record.{Record}
 use Rattle.room.specs.declared.Effect.{Effect}
-use Rattle.room.specs.declared.Effect.the-variants.{Keep, Push, Clear, Start}
+use Rattle.room.specs.declared.Effect.the-variants.{Keep, Push, Clear, ResetTo}
 use Rattle.room.specs.Room.{zeroRecord}
 use Rattle.operation.specs.declared.Operation.{Operation}
 use Rattle.operation.specs.declared.Operation.the-variants.{Branch, Exception, Return}
 
--- "A new record becomes number 0, the others move up one, the oldest of a full buffer is lost." BRB IALL and a reset "set
--- every record to zero".
+-- The list after an effect, where it had as many records as the size before: a new record stands in front and the last one
+-- falls off; BRB IALL and a reset leave zero records.
 unfoldable pub recordsAfter : ℕ → Effect → List Record → List Record
 recordsAfter size Keep list = list
 recordsAfter size (Push new) list = new ∷ take (size - 1) list
 recordsAfter size Clear list = replicate size zeroRecord
-recordsAfter size (Start n) list = replicate n zeroRecord
+recordsAfter size (ResetTo n) list = replicate n zeroRecord
 
--- A taken branch, an exception or an exception return. Its source side is the current level.
+-- The operation is an event: a taken branch, an exception or an exception return. It leaves the current level.
 pub data IsEvent : Operation → Type 0 where
   branch : {kind m source target : ℕ} → IsEvent (Branch kind m source target)
   exception : {kind level source target : ℕ} → IsEvent (Exception kind level source target)
   return : {level m source target : ℕ} → IsEvent (Return level m source target)
 
--- Its target side: the level that it enters.
+-- The level that it enters.
 abbrev pub entered : State → {o : Operation} → IsEvent o → ℕ
 entered s branch = s .level
 entered s (exception {level = level}) = level

@@ -1,8 +1,9 @@
--- What "in order of checking" means, without computing: n is the number of the first line whose condition holds.
+-- What it means to refuse in an order, without computing.
 use Prim.Native.Nat.{ℕ}
 use mathlib.Core.Bool.{Bool, true, false}
 use mathlib.Core.List.{List, [], _∷_}
 
+-- n is the number of the first line whose condition holds, or 0 where none does.
 pub data First : List (ℕ × Bool) → ℕ → Type 0 where
   -- the first line's condition holds
   here : {n : ℕ} {lines : List (ℕ × Bool)} → First ((n, true) ∷ lines) n

@@ -1,8 +1,9 @@
--- Document 01, "Which events become records", and of "Cycles" what a record takes.
+-- What becomes of an event, which is a taken branch, an exception or an exception return: document 01, "Which events become
+-- records", and of "Cycles" what a record takes; docs/MANUAL.md, "Exceptions and returns", "Records" and "Cycles".
 use Prim.Native.Nat.{ℕ, _+_}
 use mathlib.Core.Bool.{Bool, cond, _&&_, _||_, not}
 use lib.Dec.{eqb}
-use Rattle.bits.specs.Bits.{put}
+use Rattle.bits.specs.Bits.{isSet, put}
 use Rattle.count.specs.Count.{encoded}
 use Rattle.state.specs.declared.State.{State}
 use Rattle.state.specs.declared.Running.{Running}
@@ -13,33 +14,37 @@ use Rattle.room.specs.declared.Effect.{Effect}
 use Rattle.room.specs.declared.Effect.the-variants.{Keep, Push}
 use Rattle.event.specs.declared.Event.{Event}
 
--- The control of exceptions and returns: "level 1, BRBCR_EL1; level 2, BRBCR_EL2; level 3, recorded exactly when v1p1 and
--- P bit 6 are 1." The level is the target of an exception and the level that a return leaves; el1 and el2 are the control's
--- bits of BRBCR_EL1 and BRBCR_EL2. R_KRJQC, R_ZSHDL.
-unfoldable pub controlled : State → ℕ → Bool → Bool → Bool
-controlled s level el1 el2 = cond (eqb level 3) (EL3Recorded s) (cond (eqb level 2) el2 el1)
+-- The control of exceptions and returns at a level: bit k of that level's register, BRBCR_EL2 or BRBCR_EL1; at EL3, which has
+-- none, whether EL3 is recorded. The level is the one that an exception enters (R_KRJQC) or a return leaves (R_ZSHDL), and so
+-- never 0.
+unfoldable pub controlled : ℕ → State → ℕ → Bool
+controlled k s level = cond (eqb level 3) (EL3Recorded s) (cond (eqb level 2) (isSet k (s .brbcr2)) (isSet k (s .brbcr1)))
 
--- VALID. "Source prohibited: half-target (VALID 1). Only target prohibited: half-source (VALID 2). Neither: full (3)."
--- None if both sides are prohibited. R_LPLYK, R_RPVXK, R_GSMRH, R_YSKQK, R_YBJDJ, R_LMXHS, R_ZTGMW.
+-- VALID, by the sides of the event that are prohibited: source and target 0, no record; the source alone 1, half-target
+-- (R_LPLYK); the target alone 2, half-source (R_RPVXK); neither 3, full (R_GSMRH, R_MLGCF). For exceptions R_YSKQK and
+-- R_YBJDJ, for returns R_LMXHS and R_ZTGMW; a branch has one level for both sides.
 unfoldable pub valid : State → Event → ℕ
 valid s e = cond (prohibited s (e .left)) (cond (prohibited s (e .entered)) 0 1) (cond (prohibited s (e .entered)) 2 3)
 
--- Whether the record's count is unknown: the flag, or "counting is off". R_MJDLC.
+-- The record's count is unknown: by the flag of the running count, which the occasions set, or because counting is off.
+-- R_MJDLC.
 unfoldable pub countUnknown : State → Running → Bool
 countUnknown s r = eqb (r .unknown) 1 || not (counting s)
 
--- "MPRED is the mispredicted flag if bit 4 of BRBCR_EL1 and of BRBCR_EL2 are both 1, else 0." An exception's flag is 0.
--- "Half-target: BRBSRC and MPRED 0." R_XHWRB, R_DHNPJ.
+-- MPRED: the event's mispredicted flag where it is shown (R_XHWRB) and the source side is not prohibited, since a half-target
+-- record says nothing of its source. An exception's flag is 0 (R_DHNPJ).
 unfoldable pub MPRED : State → Event → ℕ
 MPRED s e = cond (predictionShown s && not (prohibited s (e .left))) (e .mispredicted) 0
 
--- "BRBINF: CCU bit 46, CC 45:32, TYPE 13:8, target level 7:6, MPRED 5, VALID 1:0, else 0."
+-- BRBINF's six fields in their places: CCU, CC, TYPE, EL (the target level), MPRED, VALID. Every other bit is 0, T and
+-- LASTFAILED among them.
 abbrev pub packed : ℕ → ℕ → ℕ → ℕ → ℕ → ℕ → ℕ
 packed ccu cc kind level mpred valid =
     put 46 46 ccu + put 45 32 cc + put 13 8 kind + put 7 6 level + put 5 5 mpred + put 1 0 valid
 
--- BRBINF of an event. "It is unknown (CCU 1, CC 0)": R_PBJTJ, R_XGSSZ, R_JZWPG; the count that the record takes has the
--- event's cycles in it. "Half-source: level 0."
+-- BRBINF of an event, where the running count is r with the event's own cycles in it. An unknown count is CCU 1 and CC 0
+-- (R_PBJTJ); a known one is encoded, all ones where it exceeded the counter (R_XGSSZ, R_JZWPG). A half-source record has
+-- level 0.
 unfoldable pub BRBINF : State → Running → Event → ℕ
 BRBINF s r e =
     packed (cond (countUnknown s r) 1 0) (cond (countUnknown s r) 0 (encoded (r .count))) (e .kind)
@@ -47,12 +52,16 @@ BRBINF s r e =
     (MPRED s e)
     (valid s e)
 
--- The record of an event: 0 where the address of its prohibited side would stand. R_YGGSC.
+-- The record of an event: an address of a prohibited side is not captured, and 0 stands for it. R_YGGSC.
 unfoldable pub recordOf : State → Running → Event → Record
 recordOf s r e =
     record { inf = BRBINF s r e; source = cond (prohibited s (e .left)) 0 (e .source); target = cond (prohibited s (e .entered)) 0 (e .target) }
 
--- What an event does to the records, where `wanted` says what its filter or control does.
--- "None while BRBFCR_EL1 bit 7 (PAUSED) is 1."
-unfoldable pub made : State → Running → Bool → Event → Effect
-made s r wanted e = cond (wanted && not (PAUSED s) && not (eqb (valid s e) 0)) (Push (recordOf s r e)) Keep
+-- The event becomes a record: it is wanted, which is what the filter says of a branch and the control of an exception or a
+-- return; recording is not paused; and one of its sides is not prohibited.
+unfoldable pub becomesRecord : State → Bool → Event → Bool
+becomesRecord s wanted e = wanted && not (PAUSED s) && not (eqb (valid s e) 0)
+
+-- What an event does to the records: its own becomes the newest, or nothing.
+abbrev pub eventEffect : State → Running → Bool → Event → Effect
+eventEffect s r wanted e = cond (becomesRecord s wanted e) (Push (recordOf s r e)) Keep

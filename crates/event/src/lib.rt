@@ -1,14 +1,22 @@
-// What an event makes of the records (document 01, "Which events become records"; Arm D19.1.1 to D19.1.6).
+// What becomes of an event (document 01, "Which events become records"; docs/MANUAL.md, "Exceptions and returns" and "Records";
+// Arm D19.1.1 to D19.1.6).
 ghost use mathlib.Core.Path.{_≡_};
-ghost use Rattle.event.specs.Event.{controlled, valid, countUnknown, MPRED, packed, BRBINF, recordOf, made};
+ghost use mathlib.Core.Bool.{cond};
+ghost use lib.Dec.{eqb};
+ghost use Rattle.state.specs.Named.{EL3Recorded};
+ghost use Rattle.event.specs.Event.{controlled, valid, countUnknown, MPRED, packed, BRBINF, recordOf, becomesRecord};
 use bits::pick;
 use bits::pick_bool;
 use count::encode;
 use region::prohibited;
-use room::Effect;
 use room::Record;
 use state::Running;
 use state::State;
+
+// Bits of BRBCR_EL1 and of BRBCR_EL2, each as the power of two that it weighs.
+const EXCEPTION: u64 = 0x80_0000;
+
+const ERTN: u64 = 0x40_0000;
 
 // Where BRBINF's fields begin, each as the power of two that its lowest bit weighs.
 const CCU: u64 = 0x4000_0000_0000;
@@ -25,7 +33,7 @@ const VALIDITY: u64 = 0x1;
 
 // A taken branch, an exception or an exception return.
 pub struct Event {
-    // The document's type; that word is the language's own.
+    // The type; that word is the language's own.
     pub kind: u64,
     pub mispredicted: u64,
     // The level at which the event starts, and the level to which it goes.
@@ -35,13 +43,37 @@ pub struct Event {
     pub target: u64,
 }
 
-// The control of an exception or a return at a level, where `el1` and `el2` are its bits of BRBCR_EL1 and BRBCR_EL2.
-pub fn controlled(s: State, level: u64, el1: bool, el2: bool) -> bool
-    ensures { λ x. ⌜ x ≡ controlled s level el1 el2 ⌝ }
+// The control at a level, where `in1` and `in2` are its bits in BRBCR_EL1 and BRBCR_EL2.
+fn by_level(s: State, level: u64, in1: bool, in2: bool) -> bool
+    ensures { λ x. ⌜ x ≡ cond (eqb level 3) (EL3Recorded s) (cond (eqb level 2) in2 in1) ⌝ }
 {
     let el3 = s.el3_recorded();
-    let below3 = pick_bool(level == 2, el2, el1);
+    let below3 = pick_bool(level == 2, in2, in1);
     pick_bool(level == 3, el3, below3)
+}
+
+// An exception to this level is recorded: the level that it enters controls it.
+pub fn exception_controlled(s: State, level: u64) -> bool
+    ensures { λ x. ⌜ x ≡ controlled 23 s level ⌝ }
+{
+    by_level(
+        s,
+        level,
+        s.brbcr1 / EXCEPTION % 2 == 1,
+        s.brbcr2 / EXCEPTION % 2 == 1,
+    )
+}
+
+// An exception return is recorded: the level that it leaves controls it.
+pub fn return_controlled(s: State) -> bool
+    ensures { λ x. ⌜ x ≡ controlled 22 s (s .level) ⌝ }
+{
+    by_level(
+        s,
+        s.level,
+        s.brbcr1 / ERTN % 2 == 1,
+        s.brbcr2 / ERTN % 2 == 1,
+    )
 }
 
 // VALID: half-target 1, half-source 2, full 3, and 0 where both sides are prohibited.
@@ -95,7 +127,8 @@ fn brbinf(s: State, r: Running, e: Event) -> u64
     packed(ccu, cc, e.kind, level, mispredicted, valid)
 }
 
-fn record_of(s: State, r: Running, e: Event) -> Record
+// The record of an event: 0 stands for the address of a prohibited side.
+pub fn record_of(s: State, r: Running, e: Event) -> Record
     ensures { λ x. ⌜ x ≡ recordOf s r e ⌝ }
 {
     Record {
@@ -105,15 +138,11 @@ fn record_of(s: State, r: Running, e: Event) -> Record
     }
 }
 
-// What an event does to the records, where `wanted` is what its filter or control says.
-pub fn made(s: State, r: Running, wanted: bool, e: Event) -> Effect
-    ensures { λ x. ⌜ x ≡ made s r wanted e ⌝ }
+// The event becomes a record, where `wanted` is what its filter or control says.
+pub fn becomes_record(s: State, wanted: bool, e: Event) -> bool
+    ensures { λ x. ⌜ x ≡ becomesRecord s wanted e ⌝ }
 {
     let paused = s.paused();
     let valid = valid(s, e);
-    if wanted & !paused & !(valid == 0) {
-        Effect::Push(record_of(s, r, e))
-    } else {
-        Effect::Keep
-    }
+    wanted & !paused & !(valid == 0)
 }

@@ -1,4 +1,5 @@
--- Document 01, "Which events become records", branches; Arm D19.2.1.
+-- The types of branches and exceptions, and the branch filter: document 01, "Which events become records"; docs/MANUAL.md,
+-- "Branch types and the filter"; Arm D19.2.1, BRBINF<n>_EL1.TYPE, BRBFCR_EL1.
 use Prim.Native.Nat.{ℕ}
 use mathlib.Core.Bool.{Bool, cond, not}
 use mathlib.Core.List.{List, [], _∷_}
@@ -6,28 +7,53 @@ use lib.Dec.{eqb}
 use Rattle.bits.specs.Bits.{bit}
 use Rattle.filter.specs.declared.BranchType.{BranchType}
 
--- The codes of the six branch types, BRBINF<n>_EL1.TYPE: DIRECT, INDIRECT, DIRCALL, INDCALL, RTN, CONDDIR.
-abbrev pub branchTypes : List ℕ
-branchTypes = 0 ∷ 1 ∷ 2 ∷ 3 ∷ 5 ∷ 8 ∷ []
+-- An unconditional direct branch.
+abbrev pub DIRECT : ℕ
+DIRECT = 0
 
--- "Exception types: 0x22, 23, 24, 26, 27, 2A, 2B, 2C, 2E, 2F."
+-- An indirect branch that is none of the following.
+abbrev pub INDIRECT : ℕ
+INDIRECT = 1
+
+-- A direct branch with link.
+abbrev pub DIRCALL : ℕ
+DIRCALL = 2
+
+-- An indirect branch with link.
+abbrev pub INDCALL : ℕ
+INDCALL = 3
+
+-- A return from subroutine.
+abbrev pub RTN : ℕ
+RTN = 5
+
+-- A conditional direct branch.
+abbrev pub CONDDIR : ℕ
+CONDDIR = 8
+
+-- The six branch types.
+abbrev pub branchTypes : List ℕ
+branchTypes = DIRECT ∷ INDIRECT ∷ DIRCALL ∷ INDCALL ∷ RTN ∷ CONDDIR ∷ []
+
+-- The exception types: call, trap, SError, instruction debug, data debug, alignment, instruction fault, data fault, IRQ, FIQ.
 abbrev pub exceptionTypes : List ℕ
 exceptionTypes = 0x22 ∷ 0x23 ∷ 0x24 ∷ 0x26 ∷ 0x27 ∷ 0x2A ∷ 0x2B ∷ 0x2C ∷ 0x2E ∷ 0x2F ∷ []
 
--- "Bits: type 0 DIRECT 17, 1 INDIRECT 18, 5 RTN 19, 3 INDCALL 20, 2 DIRCALL 21, 8 CONDDIR 22."
--- R_FJYVT, R_KKLDV, R_CKNBH, R_VBGTZ, R_RBDXK, R_BBNSZ. No other type is accepted (refusal 4).
+-- The bit of BRBFCR_EL1 that a type answers to: R_FJYVT (DIRECT), R_KKLDV (INDIRECT), R_CKNBH (RTN), R_VBGTZ (INDCALL),
+-- R_RBDXK (DIRCALL), R_BBNSZ (CONDDIR, and what is left: refusal 4 keeps every other type away).
 unfoldable pub filterBit : BranchType → ℕ
 filterBit t =
-    cond (eqb (t .code) 0) 17
-    (cond (eqb (t .code) 1) 18
-    (cond (eqb (t .code) 5) 19
-    (cond (eqb (t .code) 3) 20
-    (cond (eqb (t .code) 2) 21 22))))
+    cond (eqb (t .code) DIRECT) 17
+    (cond (eqb (t .code) INDIRECT) 18
+    (cond (eqb (t .code) RTN) 19
+    (cond (eqb (t .code) INDCALL) 20
+    (cond (eqb (t .code) DIRCALL) 21 22))))
 
--- EnI, BRBFCR_EL1 bit 16.
+-- BRBFCR_EL1 bit 16, EnI: it inverts what the filter bits mean.
 abbrev pub EnI : ℕ → ℕ
 EnI brbfcr = bit 16 brbfcr
 
--- "recorded exactly when the type's filter bit differs from EnI (bit 16)"
+-- The filter lets a branch of this type through: its filter bit differs from EnI. So a word with EnI alone lets all six
+-- through (S_XZRTW), and the word 0 none.
 unfoldable pub chosen : ℕ → BranchType → Bool
 chosen brbfcr t = not (eqb (bit (filterBit t) brbfcr) (EnI brbfcr))

@@ -5,14 +5,14 @@ use Rattle.state.specs.declared.State.{State}
 use Rattle.state.specs.declared.Running.{Running}
 use Rattle.room.specs.declared.Record.{Record}
 use Rattle.room.specs.declared.Effect.{Effect}
-use Rattle.room.specs.declared.Effect.the-variants.{Keep, Push, Clear, Start}
+use Rattle.room.specs.declared.Effect.the-variants.{Keep, Push, Clear, ResetTo}
 use Rattle.room.specs.Room.{needed}
 use Rattle.operation.specs.declared.Operation.{Operation}
 use Rattle.operation.specs.Refusal.{notReset}
 use Rattle.operation.proofs.Laws.{Accepts, sized}
 use Rattle.operation.specs.Changed.{changed}
 use Rattle.operation.proofs.Size.{Resets, is-reset, no-reset, resets, size-kept}
-use Rattle.change.specs.Change.{askedOf, effectOf}
+use Rattle.change.specs.Change.{effectOf}
 use Rattle.change.proofs.Laws.{of-effect}
 use Rattle.history.proofs.Notes.{Takes, takes}
 
@@ -21,11 +21,11 @@ pub data Allowed (size room running : ℕ) : Effect → ℕ → Type 0 where
   keeps : Allowed size room running Keep size
   pushes : {new : Record} → 1 ≤ size → needed size ≤ room → Takes running new → Allowed size room running (Push new) size
   clears : needed size ≤ room → Allowed size room running Clear size
-  starts : {n : ℕ} → needed n ≤ room → Allowed size room running (Start n) n
+  starts : {n : ℕ} → needed n ≤ room → Allowed size room running (ResetTo n) n
 
 pub allowed : (s : State) (r : Running) (room : ℕ) (o : Operation) → Accepts s o room
     → Allowed (s .size) room (r .count) (effectOf s o r) (changed s o .size)
-unfolding effectOf askedOf changed notReset
+unfolding effectOf changed notReset
 allowed s r room o a = go (resets o) a
   where
     go : {o : Operation} → Resets o → Accepts s o room → Allowed (s .size) room (r .count) (effectOf s o r) (changed s o .size)

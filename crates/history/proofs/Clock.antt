@@ -12,7 +12,7 @@ use Rattle.bits.proofs.Cases.{never}
 use Rattle.bits.proofs.Each.{first, second}
 use Rattle.room.specs.declared.Record.{Record}
 use Rattle.room.specs.declared.Effect.{Effect}
-use Rattle.room.specs.declared.Effect.the-variants.{Keep, Push, Clear, Start}
+use Rattle.room.specs.declared.Effect.the-variants.{Keep, Push, Clear, ResetTo}
 use Rattle.operation.specs.Operation.{codeOf}
 use Rattle.change.proofs.Laws.{of-effect}
 use Rattle.history.proofs.Demand3.{forgotten}

@@ -9,14 +9,14 @@ use Rattle.room.specs.declared.Record.{Record}
 use Rattle.operation.specs.Operation.{operationOf}
 use Rattle.filter.specs.Filter.{filterBit, chosen}
 use Rattle.count.specs.Count.{bitLength, exponent, mantissa, encoded, countOf, decoded}
-use Rattle.state.specs.Sound.{closed, sound}
+use Rattle.state.specs.Sound.{unavailable, sound}
 use Rattle.room.specs.Room.{records, numbered, pushed, cleared, roomAfter}
 use Rattle.region.specs.Region.{enabled, prohibited}
-use Rattle.event.specs.Event.{controlled, valid, countUnknown, MPRED, BRBINF, recordOf, made}
-use Rattle.access.specs.Access.{permitted, trapped2, outcome, readOutcome, writeOutcome, iallOutcome, registerWritten}
-use Rattle.operation.specs.Refusal.{unknownCode, notReset, outsideList, notPermitted, roomTooShort, refusalOf}
+use Rattle.event.specs.Event.{controlled, valid, countUnknown, MPRED, BRBINF, recordOf, becomesRecord}
+use Rattle.access.specs.Access.{nBit, trapped2, outcome, readOutcome, writeOutcome, iallOutcome, registerWritten}
+use Rattle.operation.specs.Refusal.{unknownCode, notReset, outsideList, wrongLevel, roomTooShort, refusalOf}
 use Rattle.operation.specs.Changed.{changed}
-use Rattle.change.specs.Change.{occasion, passed, askedOf, effectOf}
+use Rattle.change.specs.Change.{occasion, passed, effectOf}
 use Rattle.recorder.specs.Step.{answerOf, accepted, stepOf}
 use Rattle.history.specs.History.{Timed, Machine, stepped, run, shown, notedStep, notedRun, history, notesOf, stretch, S, T, acceptedCycles, noReset, justMade}
 use Rattle.history.proofs.Clock.{exact-time}
@@ -57,7 +57,7 @@ pub closed-run : (_≡_ {A = Bool × Bool × ℕ × ℕ × ℕ} (stretch seen 0 
     (true, false, 812, 813, 813))
     × (noReset after ≡ true) × justMade (history start before) × justMade (history start session)
     × (length (notesOf start session) ≡ 2 + length (notesOf start before))
-unfolding bitLength exponent mantissa encoded countOf decoded closed sound records numbered pushed cleared roomAfter enabled prohibited filterBit chosen controlled valid countUnknown MPRED BRBINF recordOf made permitted trapped2 outcome readOutcome writeOutcome iallOutcome registerWritten operationOf unknownCode notReset outsideList notPermitted roomTooShort refusalOf changed occasion passed askedOf effectOf answerOf accepted stepOf stepped run notedStep notedRun stretch S acceptedCycles noReset
+unfolding bitLength exponent mantissa encoded countOf decoded unavailable sound records numbered pushed cleared roomAfter enabled prohibited filterBit chosen controlled valid countUnknown MPRED BRBINF recordOf becomesRecord nBit trapped2 outcome readOutcome writeOutcome iallOutcome registerWritten operationOf unknownCode notReset outsideList wrongLevel roomTooShort refusalOf changed occasion passed effectOf answerOf accepted stepOf stepped run notedStep notedRun stretch S acceptedCycles noReset
 closed-run = (refl, refl, refl, refl, refl)
 
 closed-time : T (notesOf start session) 0 2 ≡ acceptedCycles (run start before) after

@@ -16,7 +16,7 @@ use Rattle.room.specs.Room.{needed, records, numbered, roomAfter}
 use Rattle.room.proofs.Laws.{records-pushed, records-cleared}
 use Rattle.operation.specs.declared.Operation.the-variants.{Reset}
 use Rattle.operation.specs.Changed.{changed}
-use Rattle.change.specs.Change.{passed, askedOf, effectOf, runningAfter}
+use Rattle.change.specs.Change.{passed, effectOf, runningAfter}
 use Rattle.recorder.specs.Step.{accepted, stepOf}
 use Rattle.history.specs.History.{Timed, Machine, stepped, run, shown, Note, Noted, isAccepted, clockAfter, notesAfter, notedStep, notedRun, history, notesOf, FromReset, reset, unset, note, isValid, isCounted, count, stretch, S, T, Near}
 use Rattle.bits.proofs.Each.{each}
@@ -90,7 +90,7 @@ module _ (x : Noted) (g : Good x) where
 -- ---- sequences from a reset
 
 good : {m : Machine} {list : List Timed} → FromReset m list → Good (history m list)
-unfolding notedRun notedStep stepped stepOf accepted effectOf askedOf changed roomAfter records
+unfolding notedRun notedStep stepped stepOf accepted effectOf changed roomAfter records
 good (unset {list = list}) = good-run _ list (record { timely = began; held = held-cleared 0 [] })
 good (reset {m = m} {size = size} {v1p1 = v1p1} {list = list} e) =
     let room : needed size ≤ length (m .room) = accepts-if (m .state) (Reset size v1p1) (length (m .room)) e .room-enough in

@@ -11,7 +11,7 @@ use borrow.Author.Tests.{eqb-true}
 use Rattle.bits.proofs.Cases.{below-or-not}
 use Rattle.answer.specs.Answer.{returned}
 use Rattle.count.specs.declared.Decoded.{Decoded}
-use Rattle.count.specs.Count.{largestCount, encoded, countOf, decoded, answerOf}
+use Rattle.count.specs.Count.{largestCount, encoded, countOf, decoded, decodedAnswer}
 use Rattle.count.proofs.Laws.{encoded-fits, above, decoded-exceeded, rounding}
 use Rattle.state.specs.Sound.{cap}
 use Rattle.state.specs.declared.State.{State}
@@ -50,7 +50,7 @@ near-taken r n d t e h =
     (λ (g : largestCount < n). let z : _≡_ {A = ℕ} 0 1 = cc (ap isKnown (ap decoded (same ∙ above n g) ∙ decoded-exceeded)) in absurd (omega arith))
     (λ (g : n ≤ largestCount).
     let (v, is, low, near) = rounding n g in
-    let value : count r ≡ v = ap (λ (d : Decoded). returned (answerOf d) .value) (ap decoded same ∙ is) in
+    let value : count r ≡ v = ap (λ (d : Decoded). returned (decodedAnswer d) .value) (ap decoded same ∙ is) in
     rw value (omega arith))
     (below-or-not largestCount n)
 

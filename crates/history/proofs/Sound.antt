@@ -14,15 +14,15 @@ use Rattle.bits.specs.Bits.{within, oneOf}
 use Rattle.state.specs.declared.State.{State}
 use Rattle.state.specs.declared.Running.{Running}
 use Rattle.state.specs.Named.{sizes, atLevel, withPlatform, withRunning}
-use Rattle.state.specs.Sound.{platformMask, controlMask, filterMask, cap, closed, sound}
+use Rattle.state.specs.Sound.{platformMask, controlMask, filterMask, cap, unavailable, sound}
 use Rattle.room.specs.declared.Effect.{Effect}
-use Rattle.room.specs.declared.Effect.the-variants.{Keep, Push, Clear, Start}
+use Rattle.room.specs.declared.Effect.the-variants.{Keep, Push, Clear, ResetTo}
 use Rattle.answer.specs.Answer.{isDone}
 use Rattle.access.specs.Access.{writeOutcome, meant, registerWritten}
 use Rattle.operation.specs.declared.Operation.{Operation}
 use Rattle.operation.specs.declared.Operation.the-variants.{Reset, Branch, Exception, Return, Platform, Read, Write, Iall, Unknown}
 use Rattle.room.specs.Room.{needed}
-use Rattle.operation.specs.Refusal.{unknownCode, notReset, outsideList, notPermitted, roomTooShort, firstThat, refusalOf}
+use Rattle.operation.specs.Refusal.{unknownCode, notReset, outsideList, wrongLevel, roomTooShort, firstThat, refusalOf}
 use Rattle.bits.proofs.Cases.{either, never}
 use Rattle.operation.specs.Changed.{changed}
 use Rattle.operation.proofs.Size.{Resets, is-reset, no-reset, resets, size-kept}
@@ -51,7 +51,7 @@ record Set (s : State) : Type 0 where
   brbcr1 : within controlMask (s .brbcr1) ≡ true
   brbcr2 : within controlMask (s .brbcr2) ≡ true
   brbfcr : within filterMask (s .brbfcr) ≡ true
-  isOpen : closed s (s .level) ≡ false
+  isOpen : unavailable s (s .level) ≡ false
 
 record Counts (r : Running) : Type 0 where
   count : leb (r .count) cap ≡ true
@@ -62,14 +62,14 @@ unfolding sound
 lines s h = search each depth 12
 
 sound-of : (s : State) (r : Running) → Set s → Counts r → sound (withRunning r s) ≡ true
-unfolding sound closed
+unfolding sound unavailable
 sound-of s r a b = rw (a .level, a .size, a .v1p1, a .p, a .brbcr1, a .brbcr2, a .brbfcr, a .isOpen, b .count, b .unknown)
 
 sized : (size : ℕ) → oneOf sizes size ≡ true → oneOf (0 ∷ sizes) size ≡ true
 sized size e = rw e
 
-entered : (s : State) (level : ℕ) → ltb 3 level ≡ false → closed s level ≡ false → Set s → Set (atLevel level s)
-unfolding closed
+entered : (s : State) (level : ℕ) → ltb 3 level ≡ false → unavailable s level ≡ false → Set s → Set (atLevel level s)
+unfolding unavailable
 entered s level low permitted t = let high : leb level 3 ≡ true = le-leb level 3 (ltb-false 3 level low) in search
 
 within-kept : (f : Bool) (mask value old : ℕ) → within mask old ≡ true → within mask (cond f (bitAnd value mask) old) ≡ true
@@ -77,7 +77,7 @@ within-kept true mask value old h = eq-eqb _ _ (kept-again value value mask (le-
 within-kept false mask value old h = h
 
 written : (s : State) (f : Bool) (k value : ℕ) → Set s → Set (cond f (registerWritten s k value) s)
-unfolding closed registerWritten
+unfolding unavailable registerWritten
 written s true k value t =
     let one = within-kept (eqb k 1) controlMask value (s .brbcr1) (t .brbcr1) in
     let two = within-kept (eqb k 2) controlMask value (s .brbcr2) (t .brbcr2) in
@@ -86,7 +86,7 @@ written s true k value t =
 written s false k value t = t
 
 set-after : {s : State} {room : ℕ} (o : Operation) → Accepts s o room → Set s → Set (changed s o)
-unfolding changed outsideList notPermitted closed
+unfolding changed outsideList wrongLevel unavailable
 set-after (Reset size v1p1) a t =
     let listed : oneOf (0 ∷ sizes) size ≡ true = sized size (search each) in
     let flag : leb v1p1 1 ≡ true = le-leb v1p1 1 (ltb-false 1 v1p1 (search each)) in
@@ -96,7 +96,7 @@ set-after {s} (Exception kind level source target) a t = entered s level (search
 set-after {s} (Return level m source target) a t = entered s level (search each) (search each) t
 set-after {s} (Platform p) a t =
     let inside : within platformMask p ≡ true = search each in
-    let top : closed (withPlatform p s) (s .level) ≡ false = rw (eqb-true (s .level) 3 (search each)) in
+    let top : unavailable (withPlatform p s) (s .level) ≡ false = rw (eqb-true (s .level) 3 (search each)) in
     search
 set-after (Read r) a t = t
 set-after {s} (Write r value) a t = written s (isDone (writeOutcome s r)) (meant s r) value t
@@ -115,7 +115,7 @@ counts-after : (e : Effect) (r : Running) → Counts r → Counts (runningAfter 
 counts-after Keep r c = c
 counts-after (Push new) r c = record { count = refl; unknown = refl }
 counts-after Clear r c = c
-counts-after (Start size) r c = record { count = refl; unknown = refl }
+counts-after (ResetTo size) r c = record { count = refl; unknown = refl }
 
 pub sound-kept : (m : Machine) (t : Timed) → sound (m .state) ≡ true → sound (stepped m t .state) ≡ true
 unfolding stepped stepOf accepted
@@ -137,7 +137,7 @@ sound-run m (t ∷ list) h = sound-run (stepped m t) list (sound-kept m t h)
 
 -- The fresh state is sound, and so is one in which a reset is accepted.
 pub sound-from : {m : Machine} {list : List Timed} → FromReset m list → sound (m .state) ≡ true
-unfolding sound closed
+unfolding sound unavailable
 sound-from unset = refl
 sound-from (reset {m = m} {size = size} {v1p1 = v1p1} e) = accepts-if (m .state) (Reset size v1p1) (length (m .room)) e .is-sound
 
@@ -196,5 +196,5 @@ not-six false false false false false f h p = let none = h refl in omega (arith,
 pub never-short : (s : State) (o : Operation) → sound s ≡ true → refusalOf s o 192 ≢ 6
 unfolding refusalOf roomTooShort
 never-short s o h =
-    not-six (not (sound s)) (unknownCode o) (notReset s o) (outsideList o) (notPermitted s o) (ltb 192 (needed (changed s o .size)))
+    not-six (not (sound s)) (unknownCode o) (notReset s o) (outsideList o) (wrongLevel s o) (ltb 192 (needed (changed s o .size)))
     (λ listed. le-ltb 192 (needed (changed s o .size)) (omega (arith, size-bound s o h listed)))

@@ -11,12 +11,12 @@ use Rattle.answer.specs.Answer.{returned}
 use Rattle.bits.specs.Bits.{part}
 use Rattle.count.specs.declared.Decoded.{Decoded}
 use Rattle.count.specs.declared.Decoded.the-variants.{Known, Exceeded, Refused}
-use Rattle.count.specs.Count.{decoded, answerOf}
+use Rattle.count.specs.Count.{decoded, decodedAnswer}
 use Rattle.state.specs.declared.State.{State}
 use Rattle.state.specs.Named.{fresh}
 use Rattle.room.specs.declared.Record.{Record}
 use Rattle.room.specs.declared.Effect.{Effect}
-use Rattle.room.specs.declared.Effect.the-variants.{Keep, Push, Clear, Start}
+use Rattle.room.specs.declared.Effect.the-variants.{Keep, Push, Clear, ResetTo}
 use Rattle.room.specs.Room.{zeroRecord, records, numbered}
 use Rattle.operation.specs.declared.Operation.{Operation}
 use Rattle.operation.specs.declared.Operation.the-variants.{Reset}
@@ -80,14 +80,14 @@ abbrev pub clockAfter : Effect → ℕ → ℕ
 clockAfter Keep now = now
 clockAfter (Push new) now = now
 clockAfter Clear now = now
-clockAfter (Start size) now = 0
+clockAfter (ResetTo size) now = 0
 
 -- A new record is noted. A reset drops the notes. BRB IALL keeps them, since the next count still runs from the last record.
 abbrev pub notesAfter : Effect → ℕ → List Note → List Note
 notesAfter Keep now notes = notes
 notesAfter (Push new) now notes = record { time = now; made = new } ∷ notes
 notesAfter Clear now notes = notes
-notesAfter (Start size) now notes = []
+notesAfter (ResetTo size) now notes = []
 
 -- A refused operation changes neither clock nor notes: its cycles do not count.
 unfoldable pub notedStep : Noted → Timed → Noted
@@ -151,7 +151,7 @@ isCounted r = eqb (CCU r) 0 && isKnown (decoded (CC r))
 
 -- That count, decoded.
 abbrev pub count : Record → ℕ
-count r = returned (answerOf (decoded (CC r))) .value
+count r = returned (decodedAnswer (decoded (CC r))) .value
 
 -- The records i to i + n of a list are all valid, and all but the oldest, which is i + n, are counted.
 unfoldable pub stretch : List Record → ℕ → ℕ → Bool

@@ -9,6 +9,7 @@ use buffer::within;
 use libc::STDERR_FILENO;
 use number::Found;
 use number::number_at;
+use operation::LAST_CODE;
 use readable::LONGEST_LINE;
 use readable::put_line;
 use recording::Numbers;
@@ -87,7 +88,9 @@ fn say(byte: u64, found: Found) {
     io::write_all(STDERR_FILENO, b": ");
     match found {
         Found::Value(code, _) => {
-            io::write_all(STDERR_FILENO, b"a code is at most 7, and ");
+            io::write_all(STDERR_FILENO, b"a code is at most ");
+            io::print_decimal(STDERR_FILENO, LAST_CODE);
+            io::write_all(STDERR_FILENO, b", and ");
             io::print_decimal(STDERR_FILENO, code);
             io::write_all(STDERR_FILENO, b" stands here\n");
         }
@@ -132,8 +135,7 @@ fn listed(out: &mut [u8; ROOM], numbers: bool, p: Place, x: Numbers, next: usize
 fn operation_listed(bytes: &[u8; ROOM], out: &mut [u8; ROOM], numbers: bool, p: Place) -> Place {
     match reading_at(bytes, p.end, p.start) {
         Reading::Operation(x, next) => listed(out, numbers, p, x, next),
-        Reading::Malformed(at) => refused(bytes, out, p, at),
-        Reading::UnknownCode(at) => refused(bytes, out, p, at),
+        Reading::Refused(_, at) => refused(bytes, out, p, at),
     }
 }
 

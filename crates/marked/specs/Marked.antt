@@ -1,4 +1,5 @@
--- Document 01, "Marked cases": one table, and one fact about it, which the checker computes from the definitions.
+-- The marked cases P1 to P12 of document 01, "Marked cases": one table, and one fact about it, which the checker computes from
+-- the definitions.
 use Prim.Native.Nat.{ℕ}
 use mathlib.Core.Path.{_≡_, refl}
 use mathlib.Core.Bool.{cond}
@@ -10,15 +11,16 @@ use Rattle.filter.specs.Filter.{branchTypes, filterBit, chosen}
 use Rattle.text.specs.Text.{bytesOfText, digits, decimalCount, decimal}
 use Rattle.count.specs.Count.{bitLength, exponent, mantissa, encoded, countOf, decoded}
 use Rattle.number.specs.Number.{numberIn, numberAt, bytesIn, bytesOf}
-use Rattle.state.specs.Sound.{closed, sound}
+use Rattle.state.specs.Sound.{unavailable, sound}
+use Rattle.state.specs.Words.{judged}
 use Rattle.room.specs.Room.{records, numbered, pushed, cleared, roomAfter}
 use Rattle.region.specs.Region.{enabled, prohibited}
-use Rattle.event.specs.Event.{controlled, valid, countUnknown, MPRED, BRBINF, recordOf, made}
-use Rattle.access.specs.Access.{permitted, trapped2, outcome, readOutcome, writeOutcome, iallOutcome, shownRecord, shownNumber, registerValue, registerWritten}
+use Rattle.event.specs.Event.{controlled, valid, countUnknown, MPRED, BRBINF, recordOf, becomesRecord}
+use Rattle.access.specs.Access.{nBit, trapped2, outcome, readOutcome, writeOutcome, iallOutcome, shownRecord, shownNumber, registerValue, registerWritten}
 use Rattle.operation.specs.Operation.{operationOf}
-use Rattle.operation.specs.Refusal.{unknownCode, notReset, outsideList, notPermitted, roomTooShort, refusalOf}
+use Rattle.operation.specs.Refusal.{unknownCode, notReset, outsideList, wrongLevel, roomTooShort, refusalOf}
 use Rattle.operation.specs.Changed.{changed}
-use Rattle.change.specs.Change.{occasion, passed, askedOf, effectOf}
+use Rattle.change.specs.Change.{occasion, passed, effectOf}
 use Rattle.recorder.specs.Step.{answerOf, accepted, stepOf}
 use Rattle.recording.specs.Recording.{numbers, fieldCount, numbersAt, operationAt, bytesOfAll, operationBytes}
 use Rattle.recording.specs.Operations.{recordingBytes}
@@ -36,6 +38,7 @@ pub data Case : Type 0 where
   -- a session's operations, and what its replay prints, line by line
   Prints : List Numbers → List ℕ → Case
 
+-- The types of a list that a filter word lets through.
 abbrev pub chosenOf : ℕ → List ℕ → List ℕ
 chosenOf word [] = []
 chosenOf word (t ∷ types) = cond (chosen word (record { code = t })) (t ∷ chosenOf word types) (chosenOf word types)
@@ -47,7 +50,7 @@ computed (Decodes cc n) = Decodes cc (decoded cc)
 computed (Records word types) = Records word (chosenOf word branchTypes)
 computed (Prints session text) = Prints session (replayOf (recordingBytes session))
 
--- Session S1.
+-- Session S1, operation by operation.
 abbrev pub S1 : List Numbers
 S1 =
     numbers 0 0 8 0 0 0
@@ -64,7 +67,7 @@ S1 =
     ∷ numbers 5 0 2 0 0 0
     ∷ []
 
--- P1 to P12.
+-- P1 to P12, each with what must come out.
 abbrev pub cases : List Case
 cases =
     Encodes 0 0
@@ -81,6 +84,7 @@ cases =
     ∷ Prints S1 (bytesOfText "0000012c00000843\n0000400000000043\n0000000000001010\nundefined\n")
     ∷ []
 
+-- The fact: what the definitions make of each input is what must come out.
 pub marked : map computed cases ≡ cases
-unfolding bitLength exponent mantissa encoded countOf decoded numberIn numberAt bytesIn bytesOf closed sound records numbered pushed cleared roomAfter enabled prohibited filterBit chosen controlled valid countUnknown MPRED BRBINF recordOf made permitted trapped2 outcome readOutcome writeOutcome iallOutcome shownRecord shownNumber registerValue registerWritten operationOf unknownCode notReset outsideList notPermitted roomTooShort refusalOf changed occasion passed askedOf effectOf answerOf accepted stepOf fieldCount numbersAt operationAt bytesOfAll operationBytes recordingBytes recordedStep digits decimalCount decimal lineOf replayFrom replayOf
+unfolding bitLength exponent mantissa encoded countOf decoded numberIn numberAt bytesIn bytesOf unavailable sound judged records numbered pushed cleared roomAfter enabled prohibited filterBit chosen controlled valid countUnknown MPRED BRBINF recordOf becomesRecord nBit trapped2 outcome readOutcome writeOutcome iallOutcome shownRecord shownNumber registerValue registerWritten operationOf unknownCode notReset outsideList wrongLevel roomTooShort refusalOf changed occasion passed effectOf answerOf accepted stepOf fieldCount numbersAt operationAt bytesOfAll operationBytes recordingBytes recordedStep digits decimalCount decimal lineOf replayFrom replayOf
 marked = refl

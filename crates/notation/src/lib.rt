@@ -2,6 +2,7 @@
 ghost use mathlib.Core.Path.{_≡_};
 ghost use Prim.Native.Nat.{_≤_};
 ghost use Rattle.notation.specs.Text.{digitValue, appended};
+use operation::LAST_CODE;
 use recording::Numbers;
 use recording::field_count;
 
@@ -36,7 +37,7 @@ pub enum Problem {
     NoNumber,
     // A number above 2^64 - 1.
     TooLarge,
-    // This code is above 7.
+    // No operation has this code.
     Code(u64),
     // An operation of this code has so many numbers, its code among them.
     Count(u64, u64),
@@ -248,7 +249,7 @@ fn operation_step(p: Parser, line: u64) -> Step {
     if p.count == 0 {
         return Step::More(at_line(line));
     }
-    if 7 < numbers.code {
+    if LAST_CODE < numbers.code {
         return Step::Wrong(Problem::Code(numbers.code), p.line);
     }
     if p.count != field_count(numbers.code) + 2 {

@@ -1,5 +1,6 @@
--- Document 01, "Recordings": one number. "Each number is in groups of seven bits, low group first, top bit set when
--- more follow; at most ten bytes, below 2^64, shortest form only. 300 is AC 02. 80 00 is malformed."
+-- One number of a recording: its digits in base 128, lowest first, a byte each, with the byte's top bit saying that another
+-- follows. Only the shortest form counts, of a number below 2^64, which has ten digits at most. 300 is AC 02; 80 00 would be
+-- 0 with a digit too many. Document 01, "Recordings"; docs/MANUAL.md, "Recordings".
 use Prim.Native.Nat.{ℕ, zero, suc, _+_, _*_, _-_, _^_, _/_, _%_}
 use mathlib.Core.Bool.{cond, _||_}
 use mathlib.Core.List.{List, [], _∷_, _++_}
@@ -8,29 +9,37 @@ use lib.ListN.{length, take, drop}
 use Rattle.number.specs.declared.Found.{Found}
 use Rattle.number.specs.declared.Found.the-variants.{Value, Malformed, Ended}
 
--- A byte with its top bit set, in front of what the bytes after it read as. Shortest form: the rest is not 0.
--- Below 2^64: the rest is below 2^57.
+-- A byte b with its top bit set, in front of what the bytes after it read as. They must not read as 0, or the form were not
+-- the shortest, and must stay below 2^57, so that 128 times as much stays below 2^64.
 abbrev pub continued : ℕ → Found → Found
 continued b (Value n next) = cond (eqb n 0 || leb (2 ^ 57) n) Malformed (Value (b - 128 + 128 * n) next)
 continued b Malformed = Malformed
 continued b Ended = Ended
 
--- The number of at most k bytes in front of the list, whose first byte stands at the given place.
+-- The number in front of the list, whose first byte stands at the given place, where so many bytes are still allowed to it.
+-- It is malformed where none is and another was to follow.
 unfoldable pub numberIn : ℕ → List ℕ → ℕ → Found
 numberIn zero bytes at = Malformed
-numberIn (suc k) [] at = Ended
-numberIn (suc k) (b ∷ bytes) at = cond (ltb b 128) (Value b (at + 1)) (continued b (numberIn k bytes (at + 1)))
+numberIn (suc allowed) [] at = Ended
+numberIn (suc allowed) (b ∷ bytes) at = cond (ltb b 128) (Value b (at + 1)) (continued b (numberIn allowed bytes (at + 1)))
 
--- The number at a place of a recording.
+-- The number at a place of a recording, and the place after it.
 unfoldable pub numberAt : List ℕ → ℕ → Found
 numberAt bytes at = numberIn 10 (drop at bytes) at
 
--- The bytes of n, of at most k groups.
+-- The number that is answered for what was found: refusal 1 for a malformed number, and for one that the end of the input
+-- cuts off, which is told apart for whoever can bring more input.
+abbrev pub foundNumber : Found → ℕ
+foundNumber (Value n next) = 0
+foundNumber Malformed = 1
+foundNumber Ended = 1
+
+-- The bytes of n, where it has at most so many digits in base 128.
 unfoldable pub bytesIn : ℕ → ℕ → List ℕ
 bytesIn zero n = []
-bytesIn (suc k) n = cond (ltb n 128) (n ∷ []) ((n % 128 + 128) ∷ bytesIn k (n / 128))
+bytesIn (suc digits) n = cond (ltb n 128) (n ∷ []) ((n % 128 + 128) ∷ bytesIn digits (n / 128))
 
--- The bytes of n, a number below 2^64.
+-- The bytes of a number below 2^64, in its shortest form.
 unfoldable pub bytesOf : ℕ → List ℕ
 bytesOf n = bytesIn 10 n
 
@@ -42,6 +51,6 @@ written out at bytes = take at out ++ (bytes ++ drop (at + length bytes) out)
 unfoldable pub writtenIf : List ℕ → ℕ → List ℕ → List ℕ
 writtenIf out at bytes = cond (leb (at + length bytes) (length out)) (written out at bytes) out
 
--- How many bytes such a writer answers.
+-- How many bytes such a writer answers that it wrote: all, or 0.
 unfoldable pub countIf : List ℕ → ℕ → List ℕ → ℕ
 countIf out at bytes = cond (leb (at + length bytes) (length out)) (length bytes) 0

@@ -1,4 +1,4 @@
--- What an accepted operation sets: level, P, registers, and by a reset everything.
+-- What an accepted operation sets: document 01, "Operations" and "Access outcomes"; docs/MANUAL.md, "Operations".
 use mathlib.Core.Bool.{cond}
 use Rattle.answer.specs.Answer.{isDone}
 use Rattle.state.specs.declared.State.{State}
@@ -7,7 +7,9 @@ use Rattle.access.specs.Access.{writeOutcome, meant, registerWritten}
 use Rattle.operation.specs.declared.Operation.{Operation}
 use Rattle.operation.specs.declared.Operation.the-variants.{Reset, Branch, Exception, Return, Platform, Read, Write, Iall, Unknown}
 
--- The state once the operation has set level, P or registers; the running count is not yet touched, but by a reset.
+-- The state once the operation has set what it sets: a reset everything, an exception and a return the level, a platform word
+-- P, a performed write its register. The running count is not touched here, but by a reset. Refusal 2 keeps an unknown code
+-- away.
 unfoldable pub changed : State → Operation → State
 changed s (Reset size v1p1) = afterReset size v1p1
 changed s (Branch kind m source target) = s

@@ -1,10 +1,15 @@
--- Document 01, "Operations": an operation from its code and four numbers; those beyond its own fields are not looked at.
-use Prim.Native.Nat.{ℕ}
+-- The operations and their codes: document 01, "Operations"; docs/MANUAL.md, "Operations".
+use Prim.Native.Nat.{ℕ, suc}
 use mathlib.Core.Bool.{cond}
 use lib.Dec.{eqb}
 use Rattle.operation.specs.declared.Operation.{Operation}
 use Rattle.operation.specs.declared.Operation.the-variants.{Reset, Branch, Exception, Return, Platform, Read, Write, Iall, Unknown}
 
+-- The largest code that an operation has: refusal 2, the reader and the writer of recordings go by it.
+abbrev pub lastCode : ℕ
+lastCode = 7
+
+-- The operation of a code and four numbers, which are its fields in order. Those beyond its own fields are not looked at.
 unfoldable pub operationOf : ℕ → ℕ → ℕ → ℕ → ℕ → Operation
 operationOf code a b c d =
     cond (eqb code 0) (Reset a b)
@@ -16,7 +21,7 @@ operationOf code a b c d =
     (cond (eqb code 6) (Write a b)
     (cond (eqb code 7) Iall Unknown)))))))
 
--- The code of an operation; of an unknown one, the first that is above 7.
+-- The code of an operation. One of an unknown code counts as having the first past the last.
 abbrev pub codeOf : Operation → ℕ
 codeOf (Reset size v1p1) = 0
 codeOf (Branch kind m source target) = 1
@@ -26,4 +31,4 @@ codeOf (Platform p) = 4
 codeOf (Read r) = 5
 codeOf (Write r value) = 6
 codeOf Iall = 7
-codeOf Unknown = 8
+codeOf Unknown = suc lastCode

@@ -1,9 +1,10 @@
-// The operations (document 01, "Operations") and their refusals ("Refusal numbers, in order of checking").
+// The operations (document 01, "Operations") and their refusals ("Refusal numbers, in order of checking"; docs/MANUAL.md,
+// "Operations" and "Refusals").
 ghost use mathlib.Core.Path.{_≡_};
 ghost use mathlib.Core.List.{[], _∷_};
 ghost use Rattle.operation.specs.Operation.{operationOf, codeOf};
 ghost use Rattle.operation.specs.Changed.{changed};
-ghost use Rattle.operation.specs.Refusal.{unknownCode, notReset, outsideList, notPermitted, roomTooShort, firstThat, refusalOf};
+ghost use Rattle.operation.specs.Refusal.{unknownCode, notReset, outsideList, wrongLevel, roomTooShort, firstThat, refusalOf};
 use access::is_register;
 use filter::BranchType;
 use filter::is_exception_type;
@@ -11,8 +12,11 @@ use state::PLATFORM_MASK;
 use state::State;
 use state::is_size;
 
-// One operation, with the fields of document 01's table. Fields are numbers as handed in: refusal 4 judges them.
-// (`kind` is the document's type; that word is the language's own.)
+// The largest code that an operation has: refusal 2, the reader and the writer of recordings go by it.
+pub const LAST_CODE: u64 = 7;
+
+// One operation and its fields, which are numbers as handed in: refusal 4 judges them. (`kind` is a type; that word is the
+// language's own.)
 pub enum Operation {
     Reset {
         size: u64,
@@ -47,7 +51,7 @@ pub enum Operation {
         value: u64,
     },
     Iall,
-    // A code above 7.
+    // A code above the last.
     Unknown,
 }
 
@@ -86,7 +90,7 @@ pub fn operation_of(code: u64, a: u64, b: u64, c: u64, d: u64) -> Operation
     }
 }
 
-// The code of an operation.
+// The code of an operation; of an unknown one, the first past the last.
 fn code_of(o: Operation) -> u64
     ensures { λ r. ⌜ r ≡ codeOf o ⌝ }
 {
@@ -99,7 +103,7 @@ fn code_of(o: Operation) -> u64
         Operation::Read { .. } => 5,
         Operation::Write { .. } => 6,
         Operation::Iall => 7,
-        Operation::Unknown => 8,
+        Operation::Unknown => LAST_CODE + 1,
     }
 }
 
@@ -135,20 +139,20 @@ fn outside_list(o: Operation) -> bool
     }
 }
 
-// 5: the level does not permit the operation.
-fn not_permitted(s: State, o: Operation) -> bool
-    ensures { λ r. ⌜ r ≡ notPermitted s o ⌝ }
+// 5: the level does not let the operation happen.
+fn wrong_level(s: State, o: Operation) -> bool
+    ensures { λ r. ⌜ r ≡ wrongLevel s o ⌝ }
 {
     match o {
         Operation::Reset { .. } => false,
         Operation::Branch { .. } => false,
         Operation::Exception { target_level, .. } => {
-            let closed = s.closed(target_level);
-            (target_level < s.level) | (target_level == 0) | closed
+            let unavailable = s.unavailable(target_level);
+            (target_level < s.level) | (target_level == 0) | unavailable
         }
         Operation::Return { target_level, .. } => {
-            let closed = s.closed(target_level);
-            (s.level == 0) | (s.level < target_level) | closed
+            let unavailable = s.unavailable(target_level);
+            (s.level == 0) | (s.level < target_level) | unavailable
         }
         Operation::Platform { .. } => !(s.level == 3),
         Operation::Read { .. } => false,
@@ -175,12 +179,12 @@ fn size_after(s: State, o: Operation) -> u64
     }
 }
 
-// 2: the code is above 7.
+// 2: no operation has the code.
 fn unknown_code(o: Operation) -> bool
     ensures { λ r. ⌜ r ≡ unknownCode o ⌝ }
 {
     let code = code_of(o);
-    7 < code
+    LAST_CODE < code
 }
 
 // 3: there was no reset yet, and this is none.
@@ -202,12 +206,12 @@ fn room_too_short(s: State, o: Operation, room: usize) -> bool
 
 // The table's last three lines, in its order.
 fn content_refusal(s: State, o: Operation, room: usize) -> u64
-    ensures { λ r. ⌜ r ≡ firstThat ((4, outsideList o) ∷ (5, notPermitted s o) ∷ (6, roomTooShort s o room) ∷ []) ⌝ }
+    ensures { λ r. ⌜ r ≡ firstThat ((4, outsideList o) ∷ (5, wrongLevel s o) ∷ (6, roomTooShort s o room) ∷ []) ⌝ }
 {
     if outside_list(o) {
         return 4;
     }
-    if not_permitted(s, o) {
+    if wrong_level(s, o) {
         return 5;
     }
     if room_too_short(s, o, room) {

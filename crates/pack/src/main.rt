@@ -12,6 +12,7 @@ use notation::Step;
 use notation::at_end;
 use notation::at_line;
 use notation::byte_step;
+use operation::LAST_CODE;
 use recording::Numbers;
 use recording::field_count;
 use recording::write_operation;
@@ -71,7 +72,9 @@ fn say(problem: Problem, line: u64) {
             io::write_all(STDERR_FILENO, b"a number is above 2^64 - 1\n");
         }
         Problem::Code(code) => {
-            io::write_all(STDERR_FILENO, b"a code is at most 7, and ");
+            io::write_all(STDERR_FILENO, b"a code is at most ");
+            io::print_decimal(STDERR_FILENO, LAST_CODE);
+            io::write_all(STDERR_FILENO, b", and ");
             io::print_decimal(STDERR_FILENO, code);
             io::write_all(STDERR_FILENO, b" stands here\n");
         }
@@ -96,8 +99,8 @@ fn stopped(out: &[u8; ROOM], work: Work) -> Work {
     ended(work.parser)
 }
 
-// An operation's bytes, behind what waits. No operation that was read is refused: its code is at most 7, and the longest
-// has room.
+// An operation's bytes, behind what waits. No operation that was read is refused: its code is known, and the longest has
+// room.
 fn put(out: &mut [u8; ROOM], waiting: usize, x: Numbers, parser: Parser) -> Work {
     let Answer::Value(n) = write_operation(out, waiting, x) else {
         io::write_all(STDERR_FILENO, b"pack: an operation was not written\n");

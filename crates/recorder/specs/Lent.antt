@@ -1,18 +1,20 @@
--- The step on a state that is lent as nine numbers.
+-- The step on a state that a host lends as numbers: docs/MANUAL.md, "State and room".
 use Prim.Native.Nat.{ℕ}
 use mathlib.Core.List.{List}
-use Rattle.state.specs.declared.Loaded.{Loaded}
-use Rattle.state.specs.declared.Loaded.the-variants.{Held, Unsound}
-use Rattle.state.specs.Words.{stored}
-use Rattle.operation.specs.declared.Operation.{Operation}
 use Rattle.answer.specs.declared.Answer.{Answer}
 use Rattle.answer.specs.declared.Answer.the-variants.{Refused}
-use Rattle.recorder.specs.Left.{Left, leaves}
+use Rattle.state.specs.declared.State.{State}
+use Rattle.state.specs.Words.{stored, loaded, ifSound}
+use Rattle.operation.specs.declared.Operation.{Operation}
+use Rattle.recorder.specs.Result.{Result, together}
 use Rattle.recorder.specs.Step.{stepOf}
 
--- The step of what lent numbers hold. Refusal 7 comes first, also for "lent memory too short to hold it".
-abbrev pub lentStepOf : List ℕ → Operation → ℕ → List ℕ → Loaded → Left Answer (List ℕ)
-lentStepOf words o cycles room (Held s) =
-    let after = stepOf s o cycles room in
-    leaves (after .answer) (stored (after .state) words) (after .room)
-lentStepOf words o cycles room Unsound = leaves (Refused 7) words room
+-- A result with its state stored in the lent numbers.
+abbrev pub inWords : {A : Type 0} → List ℕ → Result A State → Result A (List ℕ)
+inWords words r = together (r .answer) (stored (r .state) words) (r .room)
+
+-- The step of the sound state that lent numbers hold. Where they hold none, that is the refusal, before any other, and every
+-- number is as it was.
+unfoldable pub lentStep : List ℕ → Operation → ℕ → List ℕ → Result Answer (List ℕ)
+lentStep words o cycles room =
+    ifSound (loaded words) (λ s. inWords words (stepOf s o cycles room)) (λ n. together (Refused n) words room)

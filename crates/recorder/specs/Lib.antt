@@ -1,3 +1,3 @@
-pub mod Left
+pub mod Result
 pub mod Step
 pub mod Lent

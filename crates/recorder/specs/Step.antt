@@ -1,4 +1,5 @@
--- The step. Every input has one answer, one next state and one next room.
+-- The step: every operation on every state has one answer, one next state and one next room. Document 01, whole;
+-- docs/MANUAL.md, "Operations".
 use Prim.Native.Nat.{ℕ}
 use mathlib.Core.Bool.{cond}
 use mathlib.Core.List.{List}
@@ -16,9 +17,10 @@ use Rattle.operation.specs.declared.Operation.the-variants.{Reset, Branch, Exce
 use Rattle.operation.specs.Refusal.{refusalOf}
 use Rattle.operation.specs.Changed.{changed}
 use Rattle.change.specs.Change.{passed, effectOf, runningAfter}
-use Rattle.recorder.specs.Left.{Left, leaves}
+use Rattle.recorder.specs.Result.{Result, together}
 
--- What an accepted operation answers. Only reads, writes and BRB IALL can be undefined or trapped.
+-- What an accepted operation answers: a read, a write and BRB IALL how their access ended, and a performed read what it shows;
+-- everything else is done. (Refusal 2 keeps an unknown code away.)
 unfoldable pub answerOf : State → Operation → List ℕ → Answer
 answerOf s (Reset size v1p1) room = Done
 answerOf s (Branch kind m source target) room = Done
@@ -30,18 +32,18 @@ answerOf s (Write r value) room = writeOutcome s r
 answerOf s Iall room = iallOutcome s
 answerOf s Unknown room = Done
 
--- An accepted operation: the running count takes its cycles before a record takes the count.
-unfoldable pub accepted : State → Operation → ℕ → List ℕ → Left Answer State
+-- An accepted operation: the running count takes its cycles, and then a record takes the running count.
+unfoldable pub accepted : State → Operation → ℕ → List ℕ → Result Answer State
 accepted s o cycles room =
     let running = passed s (changed s o) cycles in
     let effect = effectOf s o running in
-    leaves (answerOf s o room) (withRunning (runningAfter effect running) (changed s o)) (roomAfter (s .size) effect room)
+    together (answerOf s o room) (withRunning (runningAfter effect running) (changed s o)) (roomAfter (s .size) effect room)
 
--- "A refusal returns its number and the value 0 and leaves state and room untouched."
-abbrev pub refused : ℕ → State → List ℕ → Left Answer State
-refused n s room = leaves (Refused n) s room
+-- A refusal: state and room are as they were.
+abbrev pub refused : ℕ → State → List ℕ → Result Answer State
+refused n s room = together (Refused n) s room
 
--- The step: the first refusal whose condition holds, or the accepted operation.
-unfoldable pub stepOf : State → Operation → ℕ → List ℕ → Left Answer State
+-- The step: a refusal where the operation has one, else it is accepted.
+unfoldable pub stepOf : State → Operation → ℕ → List ℕ → Result Answer State
 stepOf s o cycles room =
     cond (eqb (refusalOf s o (length room)) 0) (accepted s o cycles room) (refused (refusalOf s o (length room)) s room)

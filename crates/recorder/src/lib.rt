@@ -1,9 +1,8 @@
 // The step: one operation on a state and a lent room (document 01, whole).
 ghost use mathlib.Core.Path.{_≡_};
 ghost use Rattle.recorder.specs.Step.{answerOf, accepted, stepOf};
-ghost use Rattle.recorder.specs.Left.{leaves};
-ghost use Rattle.recorder.specs.Lent.{lentStepOf};
-ghost use Rattle.state.specs.Words.{loaded};
+ghost use Rattle.recorder.specs.Result.{together};
+ghost use Rattle.recorder.specs.Lent.{lentStep};
 use access::iall_outcome;
 use access::meant;
 use access::read_outcome;
@@ -59,7 +58,7 @@ fn answer_of(s: State, room: &[u64], o: Operation) -> Answer
 
 // An accepted operation: all is decided first, and then the room is written.
 fn accept(s: State, room: &mut [u64], o: Operation, cycles: u64) -> Stepped
-    ensures { λ r. ⌜ leaves (r .answer) (r .state) (now (room .exit)) ≡ accepted s o cycles (now (room .entry)) ⌝ }
+    ensures { λ r. ⌜ together (r .answer) (r .state) (now (room .exit)) ≡ accepted s o cycles (now (room .entry)) ⌝ }
 {
     let answer = answer_of(s, &room[..], o);
     let after = changed(s, o);
@@ -72,7 +71,7 @@ fn accept(s: State, room: &mut [u64], o: Operation, cycles: u64) -> Stepped
 
 // One operation, in any state, with any lent room: refused, and then nothing is changed, or accepted.
 pub fn step(s: State, room: &mut [u64], o: Operation, cycles: u64) -> Stepped
-    ensures { λ r. ⌜ leaves (r .answer) (r .state) (now (room .exit)) ≡ stepOf s o cycles (now (room .entry)) ⌝ }
+    ensures { λ r. ⌜ together (r .answer) (r .state) (now (room .exit)) ≡ stepOf s o cycles (now (room .entry)) ⌝ }
 {
     let number = refusal(s, o, room.len());
     if number == 0 {
@@ -87,7 +86,7 @@ pub fn step(s: State, room: &mut [u64], o: Operation, cycles: u64) -> Stepped
 
 // The same on a state that is lent as numbers: it is loaded and judged first, and stored where the step left it.
 pub fn lent_step(words: &mut [u64], room: &mut [u64], o: Operation, cycles: u64) -> Answer
-    ensures { λ r. ⌜ leaves r (now (words .exit)) (now (room .exit)) ≡ lentStepOf (now (words .entry)) o cycles (now (room .entry)) (loaded (now (words .entry))) ⌝ }
+    ensures { λ r. ⌜ together r (now (words .exit)) (now (room .exit)) ≡ lentStep (now (words .entry)) o cycles (now (room .entry)) ⌝ }
 {
     let loaded = load(&words[..]);
     match loaded {

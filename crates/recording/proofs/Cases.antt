@@ -10,6 +10,7 @@ use types.Run.{OneOf}
 use Rattle.number.proofs.Found.{the-type}
 use Rattle.number.specs.declared.Found.{Found}
 use Rattle.number.specs.declared.Found.the-variants.{Value, Malformed, Ended}
+use Rattle.operation.specs.Operation.{lastCode}
 use Rattle.recording.specs.Recording.{fieldCount}
 
 -- What was found is no number: the way that `let .. else` leaves
@@ -31,7 +32,7 @@ fields-at-most (suc (suc (suc (suc (suc (suc zero)))))) = (omega arith, λ e. om
 fields-at-most (suc (suc (suc (suc (suc (suc (suc zero))))))) = (omega arith, λ e. omega arith)
 fields-at-most (suc (suc (suc (suc (suc (suc (suc (suc code)))))))) = (omega arith, λ e. omega arith)
 
--- Codes above 7 have no field
-pub no-fields : (code : ℕ) → 7 < code → 0 ≡ fieldCount code
+-- Codes past the last have no field
+pub no-fields : (code : ℕ) → lastCode < code → 0 ≡ fieldCount code
 unfolding fieldCount
 no-fields code h = sym (List·getD-eq-default (2 ∷ 4 ∷ 4 ∷ 4 ∷ 1 ∷ 1 ∷ 2 ∷ 0 ∷ []) 0 {n = code} (omega arith))

@@ -13,9 +13,10 @@ use Rattle.number.specs.declared.Found.{Found}
 use Rattle.number.specs.declared.Found.the-variants.{Value, Malformed, Ended}
 use Rattle.number.specs.Number.{numberIn, numberAt, bytesIn, bytesOf}
 use Rattle.number.proofs.Laws.{read-written, what-reads, length-of, Bytes}
+use Rattle.operation.specs.Operation.{lastCode}
 use Rattle.recording.specs.declared.Numbers.{Numbers}
 use Rattle.recording.specs.declared.Reading.{Reading}
-use Rattle.recording.specs.declared.Reading.the-variants.{Operation, UnknownCode}
+use Rattle.recording.specs.declared.Reading.the-variants.{Operation}
 use Rattle.recording.specs.Recording.{fieldCount, Several, got, bad, inFront, thenRead, numbersAt, numbersOf, withFields, afterCode, operationAt, bytesOfAll, ownNumbers, operationBytes}
 use Rattle.recording.specs.Operations.{ownFields, recordingBytes, Holds, ends, reads}
 use Rattle.recording.proofs.Cases.{fields-at-most}
@@ -36,10 +37,10 @@ words-take (suc k) (n ∷ list) w (suc i) = words-take k list (λ j. w (suc j)) 
 
 -- An operation that reads back: its code is known, and its cycles and its own fields are below 2^64
 pub record Writable (x : Numbers) : Type 0 where
-  pub known : x .code ≤ 7
+  pub known : x .code ≤ lastCode
   pub small : Words (ownNumbers x)
 
-pub writable : (x : Numbers) → x .code ≤ 7 → x .cycles < 2 ^ 64 → x .a < 2 ^ 64 → x .b < 2 ^ 64 → x .c < 2 ^ 64 → x .d < 2 ^ 64
+pub writable : (x : Numbers) → x .code ≤ lastCode → x .cycles < 2 ^ 64 → x .a < 2 ^ 64 → x .b < 2 ^ 64 → x .c < 2 ^ 64 → x .d < 2 ^ 64
     → Writable x
 writable x k n a b c d =
     let none : Words [] = λ i. omega arith in
@@ -73,7 +74,7 @@ read-written-operation s at x b w e =
     let front : drop at s ≡ bytesOf (x .code) ++ (own ++ b) = e ∙ append-assoc (bytesOf (x .code)) own b in
     let first = read-written s at (x .code) (own ++ b) (omega arith) front in
     let rest = read-all (ownNumbers x) s (at + length (bytesOf (x .code))) b (w .small) (past s at (bytesOf (x .code)) (own ++ b) front) in
-    rw (first, le-ltb 7 (x .code) (w .known), ← own-length x, rest, length-append (bytesOf (x .code)) own, add-assoc)
+    rw (first, le-ltb lastCode (x .code) (w .known), ← own-length x, rest, length-append (bytesOf (x .code)) own, add-assoc)
 
 -- Several numbers that were read
 record ReadAll (k : ℕ) (s : List ℕ) (at : ℕ) (list : List ℕ) (next : ℕ) : Type 0 where
@@ -89,7 +90,7 @@ never e = absurd (omega arith)
 front-inv : (n : ℕ) (r : Several) (list : List ℕ) (next : ℕ) → inFront n r ≡ got list next
     → (l : List ℕ) × (r ≡ got l next) × (list ≡ n ∷ l)
 front-inv n (got l p) list next e = (l, cc, cc)
-front-inv n (bad p) list next e = never (cc)
+front-inv n (bad number p) list next e = never (cc)
 
 then-inv : (rest : ℕ → Several) (at : ℕ) (f : Found) (list : List ℕ) (next : ℕ) → thenRead rest at f ≡ got list next
     → (n : ℕ) × (p : ℕ) × (f ≡ Value n p) × (inFront n (rest p) ≡ got list next)
@@ -147,15 +148,15 @@ pub record ReadOperation (s : List ℕ) (at : ℕ) (x : Numbers) (next : ℕ) : 
 fields-inv : (code : ℕ) (r : Several) (x : Numbers) (next : ℕ) → withFields code r ≡ Operation x next
     → (list : List ℕ) × (r ≡ got list next) × (numbersOf code list ≡ x)
 fields-inv code (got list p) x next e = (list, cc, cc)
-fields-inv code (bad p) x next e = never (cc)
+fields-inv code (bad number p) x next e = never (cc)
 
 code-inv : (s : List ℕ) (at : ℕ) (f : Found) (x : Numbers) (next : ℕ) → afterCode s at f ≡ Operation x next
-    → (code : ℕ) × (p : ℕ) × (f ≡ Value code p) × (code ≤ 7)
+    → (code : ℕ) × (p : ℕ) × (f ≡ Value code p) × (code ≤ lastCode)
     × (withFields code (numbersAt (suc (fieldCount code)) s p) ≡ Operation x next)
 code-inv s at (Value code p) x next e =
-    ⊎-elim (λ g. let v = rw (lt-ltb 7 code g) at e in never (cc))
-    (λ l. (code, p, refl, l, rw (le-ltb 7 code l) at e))
-    (below-or-not 7 code)
+    ⊎-elim (λ g. let v = rw (lt-ltb lastCode code g) at e in never (cc))
+    (λ l. (code, p, refl, l, rw (le-ltb lastCode code l) at e))
+    (below-or-not lastCode code)
 code-inv s at Malformed x next e = never (cc)
 code-inv s at Ended x next e = never (cc)
 
@@ -164,7 +165,7 @@ read-bytes : (code : ℕ) (list : List ℕ) → length list ≡ suc (fieldCount 
 unfolding operationBytes bytesOfAll
 read-bytes code list e = ap (λ (l : List ℕ). bytesOf code ++ bytesOfAll l) (own-back code list e)
 
-was-read : (s : List ℕ) (at code p : ℕ) (list : List ℕ) (next : ℕ) → Bytes s → numberAt s at ≡ Value code p → code ≤ 7
+was-read : (s : List ℕ) (at code p : ℕ) (list : List ℕ) (next : ℕ) → Bytes s → numberAt s at ≡ Value code p → code ≤ lastCode
     → numbersAt (suc (fieldCount code)) s p ≡ got list next → ReadOperation s at (numbersOf code list) next
 was-read s at code p list next h e k v =
     let one = what-reads s at code p h e in

@@ -25,9 +25,9 @@ all : (list : List ℕ) (next : ℕ) → inFrontOf list (got [] next) ≡ got li
 all [] next = refl
 all (m ∷ list) next = ap (inFront m) (all list next)
 
-ended : (list : List ℕ) (at : ℕ) → inFrontOf list (bad at) ≡ bad at
-ended [] at = refl
-ended (m ∷ list) at = ap (inFront m) (ended list at)
+ended : (list : List ℕ) (number at : ℕ) → inFrontOf list (bad number at) ≡ bad number at
+ended [] number at = refl
+ended (m ∷ list) number at = ap (inFront m) (ended list number at)
 
 -- Numbers of a recording that were read from a place on, and the place where reading goes on.
 pub record SoFar (bytes : List ℕ) (start : ℕ) : Type 0 where
@@ -53,11 +53,11 @@ module _ {bytes : List ℕ} {start : ℕ} (h : SoFar bytes start) {found : Found
 
   -- It was no number, and more were asked for than were read.
   pub and-none : OneOf (1 ∷ 2 ∷ []) (tagOf the-type found) → (count : ℕ) → length (h .list) < count
-      → numbersAt count bytes start ≡ bad (h .at)
+      → numbersAt count bytes start ≡ bad 1 (h .at)
   unfolding numbersAt
   and-none none count more =
       h .rest (suc (count - length (h .list) - 1)) count (omega arith)
-      ∙ no-value found none (λ m. rw (← e, m) (ended (h .list) (h .at))) (λ m. rw (← e, m) (ended (h .list) (h .at)))
+      ∙ no-value found none (λ m. rw (← e, m) (ended (h .list) 1 (h .at))) (λ m. rw (← e, m) (ended (h .list) 1 (h .at)))
 
 -- They are all that were asked for.
 pub and-all : {bytes : List ℕ} {start : ℕ} (h : SoFar bytes start) (count : ℕ) → count ≡ length (h .list)

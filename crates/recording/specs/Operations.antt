@@ -1,4 +1,5 @@
--- Document 01, "Recordings": "Operations one after another to the end of input."
+-- A whole recording: operations one after another, to the end of the input. Document 01, "Recordings"; docs/MANUAL.md,
+-- "Recordings".
 use Prim.Native.Nat.{ℕ, _≤_}
 use mathlib.Core.Path.{_≡_}
 use mathlib.Core.Bool.{cond}
@@ -23,8 +24,8 @@ unfoldable pub recordingBytes : List Numbers → List ℕ
 recordingBytes [] = []
 recordingBytes (x ∷ list) = operationBytes x ++ recordingBytes list
 
--- The operations that a recording holds from a place on: none at the end of input, else the one that is read there and those
--- after it.
+-- The operations that a recording holds from a place on: none at the end of the input, else the one that is read there and
+-- those after it.
 pub data Holds (bytes : List ℕ) : ℕ → List Numbers → Type 0 where
   ends : {at : ℕ} → length bytes ≤ at → Holds bytes at []
   reads : {at next : ℕ} {x : Numbers} {list : List Numbers} → operationAt bytes at ≡ Operation x next → Holds bytes next list

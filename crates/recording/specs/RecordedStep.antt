@@ -1,36 +1,37 @@
--- Document 01, "Refusal numbers": "In a recording 7 comes first, then the code is read (1, then 2), then all fields (1),
--- then the rest."
+-- One step of a recording: the state is judged, then the operation is read, and then it is stepped. Document 01, "Refusal
+-- numbers", the paragraph under the table; docs/MANUAL.md, "Recordings".
 use Prim.Native.Nat.{ℕ}
-use mathlib.Core.Bool.{Bool, cond}
+use mathlib.Core.Bool.{Bool}
 use mathlib.Core.List.{List, [], _∷_}
 use Rattle.answer.specs.declared.Answer.{Answer}
 use Rattle.answer.specs.Answer.{returned}
 use Rattle.bits.specs.Bits.{oneOf}
 use Rattle.state.specs.declared.State.{State}
-use Rattle.state.specs.Sound.{sound}
+use Rattle.state.specs.Words.{judged, ifSound}
 use Rattle.operation.specs.Operation.{operationOf}
-use Rattle.recorder.specs.Left.{Left}
+use Rattle.recorder.specs.Result.{Result}
 use Rattle.recorder.specs.Step.{refused, stepOf}
 use Rattle.recording.specs.declared.Reading.{Reading}
-use Rattle.recording.specs.declared.Reading.the-variants.{Operation, Malformed, UnknownCode}
+use Rattle.recording.specs.declared.Reading.the-variants.{Operation, Refused}
 use Rattle.recording.specs.Recording.{operationAt}
 
--- A step's result, and the place where reading goes on.
+-- A step's result, and the place where reading goes on, or where the bad number starts.
 pub record Recorded : Type 0 where
-  pub result : Left Answer State
+  pub result : Result Answer State
   pub next : ℕ
 
+-- The step of what was read: of the operation, or the refusal that reading came to.
 abbrev pub stepOfReading : State → List ℕ → Reading → Recorded
 stepOfReading s room (Operation x next) =
     record { result = stepOf s (operationOf (x .code) (x .a) (x .b) (x .c) (x .d)) (x .cycles) room; next = next }
-stepOfReading s room (Malformed place) = record { result = refused 1 s room; next = place }
-stepOfReading s room (UnknownCode place) = record { result = refused 2 s room; next = place }
+stepOfReading s room (Refused number place) = record { result = refused number s room; next = place }
 
--- "after 7 with nothing read"
+-- The step of the operation at a place. A state that is not sound is refused first, with nothing read.
 unfoldable pub recordedStep : State → List ℕ → List ℕ → ℕ → Recorded
 recordedStep s room bytes at =
-    cond (sound s) (stepOfReading s room (operationAt bytes at)) (record { result = refused 7 s room; next = at })
+    ifSound (judged s) (λ sound. stepOfReading sound room (operationAt bytes at)) (λ n. record { result = refused n s room; next = at })
 
--- "After 7, 1 or 2 reading stops; after another refusal it goes on."
+-- Reading stops after refusals 7, 1 and 2, since the state or the place of the next operation is not known; after every other
+-- answer it goes on.
 abbrev pub stopsReading : Answer → Bool
 stopsReading a = oneOf (7 ∷ 1 ∷ 2 ∷ []) (returned a .number)

@@ -1,4 +1,5 @@
--- Document 01, "Recordings" and, of "Refusal numbers", what concerns reading and writing.
+-- One operation of a recording, read and written: its code, its cycles and its own fields, one number after another. Document
+-- 01, "Recordings" and, of "Refusal numbers", what concerns reading and writing; docs/MANUAL.md, "Recordings".
 use Prim.Native.Nat.{ℕ, zero, suc, _+_}
 use mathlib.Core.Bool.{cond}
 use mathlib.Core.List.{List, [], _∷_, _++_}
@@ -7,55 +8,61 @@ use lib.ListN.{length, getD, take}
 use Rattle.answer.specs.declared.Answer.{Answer}
 use Rattle.number.specs.declared.Found.{Found}
 use Rattle.number.specs.declared.Found.the-variants.{Value, Malformed, Ended}
-use Rattle.number.specs.Number.{numberAt, bytesOf, writtenIf}
+use Rattle.number.specs.Number.{numberAt, foundNumber, bytesOf, writtenIf}
+use Rattle.operation.specs.Operation.{lastCode}
 use Rattle.recording.specs.declared.Numbers.{Numbers}
 use Rattle.recording.specs.declared.Reading.{Reading}
-use Rattle.recording.specs.declared.Reading.the-variants.{Operation, UnknownCode}
+use Rattle.recording.specs.declared.Reading.the-variants.{Operation, Refused}
 
--- Document 01, "Operations": how many fields each code has.
+-- How many fields each code has, from 0 on; a code past the last has none.
 unfoldable pub fieldCount : ℕ → ℕ
 fieldCount code = getD (2 ∷ 4 ∷ 4 ∷ 4 ∷ 1 ∷ 1 ∷ 2 ∷ 0 ∷ []) code 0
 
--- Several numbers read one after another: all of them and the place after the last, or where the first bad one starts.
+-- Several numbers read one after another: all of them and the place after the last; or the number of the refusal, and where
+-- the first bad one starts.
 pub data Several : Type 0 where
   got : List ℕ → ℕ → Several
-  bad : ℕ → Several
+  bad : ℕ → ℕ → Several
 
+-- A number in front of several.
 abbrev pub inFront : ℕ → Several → Several
 inFront n (got list next) = got (n ∷ list) next
-inFront n (bad place) = bad place
+inFront n (bad number place) = bad number place
 
--- A number that was read in front of the rest, which is read after it.
+-- What was found at a place, in front of the rest, which is read from the place after it.
 abbrev pub thenRead : (ℕ → Several) → ℕ → Found → Several
 thenRead rest at (Value n next) = inFront n (rest next)
-thenRead rest at Malformed = bad at
-thenRead rest at Ended = bad at
+thenRead rest at Malformed = bad (foundNumber Malformed) at
+thenRead rest at Ended = bad (foundNumber Ended) at
 
+-- So many numbers from a place on.
 unfoldable pub numbersAt : ℕ → List ℕ → ℕ → Several
 numbersAt zero bytes at = got [] at
 numbersAt (suc k) bytes at = thenRead (numbersAt k bytes) at (numberAt bytes at)
 
--- An operation as document 01 writes it: code, cycles, then fields.
+-- An operation's six numbers: its code, its cycles and four fields.
 abbrev pub numbers : ℕ → ℕ → ℕ → ℕ → ℕ → ℕ → Numbers
 numbers code cycles a b c d = record { code = code; cycles = cycles; a = a; b = b; c = c; d = d }
 
--- An operation from its code, and its cycles and fields in a list: "a reader gives 0" for numbers beyond its own fields.
+-- An operation from its code, and its cycles and own fields in a list: 0 for the fields that it does not have.
 abbrev pub numbersOf : ℕ → List ℕ → Numbers
 numbersOf code list = numbers code (getD list 0 0) (getD list 1 0) (getD list 2 0) (getD list 3 0) (getD list 4 0)
 
--- Cycles and fields of an operation whose code was read.
+-- An operation whose code was read, with its cycles and fields as they were read.
 abbrev pub withFields : ℕ → Several → Reading
 withFields code (got list next) = Operation (numbersOf code list) next
-withFields code (bad place) = Reading.Malformed place
+withFields code (bad number place) = Refused number place
 
--- "then the code is read (1, then 2), then all fields (1)"; cycles are read with the fields. "input ending inside an
--- operation is 1"
+-- What was found where the code stands: without a code the operation is refused as what was found is; a code past the last
+-- is 2, before its cycles and fields are read; then these are.
 abbrev pub afterCode : List ℕ → ℕ → Found → Reading
 afterCode bytes at (Value code next) =
-    cond (ltb 7 code) (UnknownCode at) (withFields code (numbersAt (suc (fieldCount code)) bytes next))
-afterCode bytes at Malformed = Reading.Malformed at
-afterCode bytes at Ended = Reading.Malformed at
+    cond (ltb lastCode code) (Refused 2 at) (withFields code (numbersAt (suc (fieldCount code)) bytes next))
+afterCode bytes at Malformed = Refused (foundNumber Malformed) at
+afterCode bytes at Ended = Refused (foundNumber Ended) at
 
+-- The operation at a place of a recording, and the place after it; or the number of the refusal, and where the bad number
+-- starts. An operation that the end of the input cuts off has a number that is cut off or missing, and so is refused.
 unfoldable pub operationAt : List ℕ → ℕ → Reading
 operationAt bytes at = afterCode bytes at (numberAt bytes at)
 
@@ -72,12 +79,13 @@ ownNumbers x = x .cycles ∷ take (fieldCount (x .code)) (x .a ∷ x .b ∷ x .c
 unfoldable pub operationBytes : Numbers → List ℕ
 operationBytes x = bytesOfAll (x .code ∷ ownNumbers x)
 
--- "The writer checks only 2, then 6, and answers the number of bytes it wrote."
+-- What the writer answers: 2 for a code past the last, then 6 where the bytes have no room at the place, else how many were
+-- written. It judges no field.
 unfoldable pub writingOf : Numbers → ℕ → List ℕ → Answer
 writingOf x at out =
-    cond (ltb 7 (x .code)) (Answer.Refused 2)
+    cond (ltb lastCode (x .code)) (Answer.Refused 2)
     (cond (leb (at + length (operationBytes x)) (length out)) (Answer.Value (length (operationBytes x))) (Answer.Refused 6))
 
--- The lent bytes after the writer: on refusal nothing is written.
+-- The lent bytes after the writer: where it refuses, none is written.
 unfoldable pub writtenOperation : Numbers → ℕ → List ℕ → List ℕ
-writtenOperation x at out = cond (ltb 7 (x .code)) out (writtenIf out at (operationBytes x))
+writtenOperation x at out = cond (ltb lastCode (x .code)) out (writtenIf out at (operationBytes x))

@@ -1,4 +1,4 @@
-// Recordings (document 01, "Recordings"): operations one after another to the end of input.
+// Recordings: operations one after another, to the end of the input (document 01, "Recordings"; docs/MANUAL.md, the same).
 ghost use mathlib.Core.Path.{_≡_};
 ghost use Prim.Native.Nat.{suc, _+_, _≤_};
 ghost use lib.ListN.{length, take};
@@ -6,12 +6,14 @@ ghost use Rattle.number.specs.Number.{written};
 ghost use Rattle.recording.specs.Operations.{storedNumbers};
 ghost use Rattle.recording.specs.Recording.{fieldCount, numbersAt, withFields, operationAt, bytesOfAll, writtenOperation, writingOf, numbers};
 ghost use Rattle.recording.specs.RecordedStep.{recordedStep, stopsReading};
-ghost use Rattle.recorder.specs.Left.{leaves};
+ghost use Rattle.operation.specs.Operation.{lastCode};
+ghost use Rattle.recorder.specs.Result.{together};
 use answer::Answer;
 use number::Found;
 use number::number_at;
 use number::number_length;
 use number::write_number;
+use operation::LAST_CODE;
 use operation::operation_of;
 use recorder::step;
 use state::State;
@@ -45,20 +47,27 @@ impl Numbers {
 pub enum Reading {
     // The operation, and the place after it.
     Operation(Numbers, usize),
-    // Refusal 1, and the place where the malformed or missing number starts.
-    Malformed(usize),
-    // Refusal 2, and the place of the code.
-    UnknownCode(usize),
+    // The number of the refusal, and the place where the bad or missing number starts.
+    Refused(u64, usize),
 }
+
+// Refusals in reading: a number is malformed or missing; no operation has the code.
+const MALFORMED: u64 = 1;
+
+const UNKNOWN_CODE: u64 = 2;
 
 // How many fields each code has (document 01, "Operations").
 const FIELDS: [u64; 8] = [2, 4, 4, 4, 1, 1, 2, 0];
 
-// 0 for a code above 7, which has none.
+// 0 for a code past the last, which has none.
 pub fn field_count(code: u64) -> u64
     ensures { λ r. ⌜ (r ≡ fieldCount code) × (r ≤ 4) ⌝ }
 {
-    if code < 8 { FIELDS[code as usize] } else { 0 }
+    if code <= LAST_CODE {
+        FIELDS[code as usize]
+    } else {
+        0
+    }
 }
 
 // An operation that was read, and the place after it. What its code has no field for is handed in as 0.
@@ -68,49 +77,49 @@ fn operation(code: u64, cycles: u64, a: u64, b: u64, c: u64, d: u64, next: usize
     Reading::Operation(Numbers::new(code, cycles, a, b, c, d), next)
 }
 
-// Cycles and fields after a code (document 01, "Refusal numbers": "then all fields (1)"). A chain and no loop, since a
-// replay spends its time here. No code has three fields, so what has more than two has four.
+// Cycles and fields after a code. A chain and no loop, since a replay spends its time here. No code has three fields, so what
+// has more than two has four.
 fn fields_at(bytes: &[u8], at: usize, code: u64) -> Reading
-    requires { ⌜ code ≤ 7 ⌝ }
+    requires { ⌜ code ≤ lastCode ⌝ }
     ensures { λ r. ⌜ r ≡ withFields code (numbersAt (suc (fieldCount code)) (now (bytes .entry)) at) ⌝ }
 {
     let count = field_count(code);
     let Found::Value(cycles, first) = number_at(bytes, at) else {
-        return Reading::Malformed(at);
+        return Reading::Refused(MALFORMED, at);
     };
     if count == 0 {
         return operation(code, cycles, 0, 0, 0, 0, first);
     }
     let Found::Value(a, second) = number_at(bytes, first) else {
-        return Reading::Malformed(first);
+        return Reading::Refused(MALFORMED, first);
     };
     if count == 1 {
         return operation(code, cycles, a, 0, 0, 0, second);
     }
     let Found::Value(b, third) = number_at(bytes, second) else {
-        return Reading::Malformed(second);
+        return Reading::Refused(MALFORMED, second);
     };
     if count == 2 {
         return operation(code, cycles, a, b, 0, 0, third);
     }
     let Found::Value(c, fourth) = number_at(bytes, third) else {
-        return Reading::Malformed(third);
+        return Reading::Refused(MALFORMED, third);
     };
     let Found::Value(d, next) = number_at(bytes, fourth) else {
-        return Reading::Malformed(fourth);
+        return Reading::Refused(MALFORMED, fourth);
     };
     operation(code, cycles, a, b, c, d, next)
 }
 
-// The operation at a place (document 01, "Refusal numbers": "the code is read (1, then 2), then all fields (1)").
+// The operation at a place: the code is read and judged before its cycles and fields are read.
 pub fn operation_at(bytes: &[u8], at: usize) -> Reading
     ensures { λ r. ⌜ r ≡ operationAt (now (bytes .entry)) at ⌝ }
 {
     let Found::Value(code, next) = number_at(bytes, at) else {
-        return Reading::Malformed(at);
+        return Reading::Refused(MALFORMED, at);
     };
-    if 7 < code {
-        return Reading::UnknownCode(at);
+    if LAST_CODE < code {
+        return Reading::Refused(UNKNOWN_CODE, at);
     }
     fields_at(bytes, next, code)
 }
@@ -142,15 +151,14 @@ fn write_numbers(out: &mut [u8], at: usize, list: [u64; 6], count: usize)
     }
 }
 
-// An operation at a place of lent bytes (document 01, "Refusal numbers": "The writer checks only 2, then 6, and answers the
-// number of bytes it wrote."). The whole length is known before the first byte is written, so that a refusal writes
-// nothing. The tests subtract, since a sum with a large place would wrap.
+// An operation at a place of lent bytes, and how many bytes it has there. The whole length is known before the first byte is
+// written, so that a refusal writes nothing. The tests subtract, since a sum with a large place would wrap.
 pub fn write_operation(out: &mut [u8], at: usize, x: Numbers) -> Answer
     ensures { λ r. ⌜ r ≡ writingOf x at (now (out .entry)) ⌝ }
     ensures { λ _. ⌜ now (out .exit) ≡ writtenOperation x at (now (out .entry)) ⌝ }
 {
-    if 7 < x.code {
-        return Answer::Refused(2);
+    if LAST_CODE < x.code {
+        return Answer::Refused(UNKNOWN_CODE);
     }
     let list = [x.code, x.cycles, x.a, x.b, x.c, x.d];
     let count = field_count(x.code) as usize + 2;
@@ -173,10 +181,10 @@ pub struct Replayed {
     pub next: usize,
 }
 
-// One operation of a recording (document 01, "Refusal numbers": "7 comes first, then the code is read (1, then 2), then all
-// fields (1), then the rest."). After 7 nothing was read, so that the place is the one handed in.
+// One operation of a recording: the state is judged, the operation is read, and then it is stepped. After 7 nothing was read,
+// so that the place is the one handed in.
 pub fn recorded_step(s: State, room: &mut [u64], bytes: &[u8], at: usize) -> Replayed
-    ensures { λ r. ⌜ record { result = leaves (r .answer) (r .state) (now (room .exit)); next = r .next } ≡ recordedStep s (now (room .entry)) (now (bytes .entry)) at ⌝ }
+    ensures { λ r. ⌜ record { result = together (r .answer) (r .state) (now (room .exit)); next = r .next } ≡ recordedStep s (now (room .entry)) (now (bytes .entry)) at ⌝ }
 {
     if !s.sound() {
         return refused(7, s, at);
@@ -193,8 +201,7 @@ pub fn recorded_step(s: State, room: &mut [u64], bytes: &[u8], at: usize) -> Rep
                 next,
             }
         }
-        Reading::Malformed(place) => refused(1, s, place),
-        Reading::UnknownCode(place) => refused(2, s, place),
+        Reading::Refused(number, place) => refused(number, s, place),
     }
 }
 

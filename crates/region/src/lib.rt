@@ -1,6 +1,6 @@
 // Where recording is prohibited (document 01; Arm's BRBE Prohibited regions, D19.1.4).
 ghost use mathlib.Core.Path.{_≡_};
-ghost use Rattle.region.specs.Region.{enabled, securelyProhibited, prohibited};
+ghost use Rattle.region.specs.Region.{enabled, prohibitedBySBRBE, prohibited};
 use bits::pick_bool;
 use state::State;
 
@@ -26,8 +26,8 @@ fn enabled(s: State, level: u64) -> bool
 }
 
 // SBRBE prohibits every level below EL3.
-fn securely_prohibited(s: State) -> bool
-    ensures { λ r. ⌜ r ≡ securelyProhibited s ⌝ }
+fn prohibited_by_sbrbe(s: State) -> bool
+    ensures { λ r. ⌜ r ≡ prohibitedBySBRBE s ⌝ }
 {
     (s.p / SBRBE % 4 == 0) | (s.p / SBRBE % 4 == 1) & !(s.p / NS % 2 == 1)
 }
@@ -37,6 +37,6 @@ pub fn prohibited(s: State, level: u64) -> bool
     ensures { λ r. ⌜ r ≡ prohibited s level ⌝ }
 {
     let recorded = s.el3_recorded();
-    let below3 = securely_prohibited(s) | !enabled(s, level);
+    let below3 = prohibited_by_sbrbe(s) | !enabled(s, level);
     pick_bool(level == 3, !recorded, below3)
 }

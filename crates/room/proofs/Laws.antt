@@ -15,7 +15,7 @@ use Rattle.bits.proofs.Cases.{below-or-not}
 use Rattle.bits.proofs.Each.{first, second}
 use Rattle.room.specs.declared.Record.{Record}
 use Rattle.room.specs.declared.Effect.{Effect}
-use Rattle.room.specs.declared.Effect.the-variants.{Keep, Push, Clear, Start}
+use Rattle.room.specs.declared.Effect.the-variants.{Keep, Push, Clear, ResetTo}
 use Rattle.room.specs.Room.{zeroRecord, placed, records, numbered, needed, pushed, cleared, roomAfter}
 
 -- A third of the room is below a size exactly when the room is below what the size needs: a test that cannot overflow.
@@ -111,14 +111,14 @@ abbrev pub sizeAfterEffect : ℕ → Effect → ℕ
 sizeAfterEffect size Keep = size
 sizeAfterEffect size (Push r) = size
 sizeAfterEffect size Clear = size
-sizeAfterEffect size (Start n) = n
+sizeAfterEffect size (ResetTo n) = n
 
 kept-after : (size : ℕ) (e : Effect) (room : List ℕ) → Kept (needed (sizeAfterEffect size e)) room (roomAfter size e room)
 unfolding roomAfter
 kept-after size Keep room = (refl, refl)
 kept-after size (Push r) room = kept-pushed size r room
 kept-after size Clear room = kept-cleared size room
-kept-after size (Start n) room = kept-cleared n room
+kept-after size (ResetTo n) room = kept-cleared n room
 
 pub length-roomAfter : (size : ℕ) (e : Effect) (room : List ℕ) → length (roomAfter size e room) ≡ length room
 length-roomAfter size e room = kept-after size e room .0

@@ -33,7 +33,7 @@ pub enum Effect {
     // Every record becomes zero: BRB IALL.
     Clear,
     // Every record of this size becomes zero: a reset.
-    Start(u64),
+    ResetTo(u64),
 }
 
 // The first `kept` numbers move up three places, which is one record. It goes from the end towards the front, so that no
@@ -91,7 +91,7 @@ pub fn apply(room: &mut [u64], size: u64, effect: Effect)
         Effect::Keep => {}
         Effect::Push(r) => push(room, size, r),
         Effect::Clear => clear(room, size),
-        Effect::Start(n) => clear(room, n),
+        Effect::ResetTo(n) => clear(room, n),
     }
 }
 

@@ -2,7 +2,7 @@
 use Prim.Native.Nat.{ℕ, _≤_, _<_}
 use mathlib.Core.Path.{_≡_, sym, _∙_}
 use mathlib.Core.List.{List}
-use mathlib.Core.Bool.{true, false, _&&_}
+use mathlib.Core.Bool.{true, false}
 use mathlib.Core.Logic.{_⊎_, inl, inr, ⊎-elim}
 use native.Mathlib.Omega.{arith}
 use borrow.Author.Tests.{lt-leb, le-leb}
@@ -10,11 +10,11 @@ use lib.Dec.{leb}
 use lib.ListN.{length}
 use lib.Seq.{sets-eq, set-getD}
 use Rattle.bits.proofs.Cases.{below-or-not, either, never}
-use Rattle.bits.proofs.Each.{second}
 use Rattle.state.specs.declared.State.{State}
 use Rattle.state.specs.declared.Loaded.the-variants.{Held}
 use Rattle.state.specs.Sound.{sound}
-use Rattle.state.specs.Words.{stateOf, wordsOf, stored, loaded}
+use Rattle.state.specs.Parts.{stateNumbers, stateOf, wordsOf}
+use Rattle.state.specs.Words.{stored, judged, loaded}
 
 pub load-stored : (s : State) (w : List ℕ) → 9 ≤ length w → stateOf (stored s w) ≡ s
 unfolding stored
@@ -27,16 +27,24 @@ stored-loaded w =
     (λ (enough : 9 ≤ length w). rw (le-leb 9 (length w) enough) (sym (sets-eq (wordsOf (stateOf w)) w 0 (omega arith)) ∙ simp set-getD))
     (below-or-not (length w) 9)
 
+-- A state that was judged and held is the one that was judged, and it is sound.
+pub held-judged : (s s′ : State) → judged s ≡ Held s′ → (s′ ≡ s) × (sound s ≡ true)
+unfolding judged
+held-judged s s′ e = go (either (sound s))
+  where
+    go : (sound s ≡ true) ⊎ (sound s ≡ false) → (s′ ≡ s) × (sound s ≡ true)
+    go (inl h) = (cc (rw h at e), h)
+    go (inr h) = never (cc (rw h at e))
+
 -- A state that was loaded is the one that the lent numbers hold, and it is sound.
 pub held : (w : List ℕ) (s : State) → loaded w ≡ Held s → (s ≡ stateOf w) × (sound s ≡ true)
 unfolding loaded
-held w s e = go (either (leb 9 (length w) && sound (stateOf w)))
+held w s e = go (either (leb stateNumbers (length w)))
   where
-    go : ((leb 9 (length w) && sound (stateOf w)) ≡ true) ⊎ ((leb 9 (length w) && sound (stateOf w)) ≡ false)
-        → (s ≡ stateOf w) × (sound s ≡ true)
+    go : (leb stateNumbers (length w) ≡ true) ⊎ (leb stateNumbers (length w) ≡ false) → (s ≡ stateOf w) × (sound s ≡ true)
     go (inl h) =
-        let same : s ≡ stateOf w = cc (rw h at e) in
-        (same, rw same (second (leb 9 (length w)) (sound (stateOf w)) h))
+        let (same, is-sound) = held-judged (stateOf w) s (rw h at e) in
+        (same, rw same is-sound)
     go (inr h) = never (cc (rw h at e))
 
 -- Storing what was loaded leaves the lent numbers as they were.

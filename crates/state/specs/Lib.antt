@@ -1,3 +1,4 @@
+pub mod Parts
 pub mod Named
 pub mod Sound
 pub mod Words

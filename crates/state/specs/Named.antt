@@ -1,4 +1,5 @@
--- The bits of P and of the control registers by name, and the states that document 01 names.
+-- The bits of P and of the control registers by name, and the states that document 01 names: "Operations"; docs/MANUAL.md,
+-- "The platform word P" and "Registers".
 use Prim.Native.Nat.{ℕ}
 use mathlib.Core.Bool.{Bool, _&&_, _||_}
 use mathlib.Core.List.{List, [], _∷_}
@@ -6,96 +7,106 @@ use lib.Dec.{eqb}
 use Rattle.bits.specs.Bits.{isSet, part}
 use Rattle.state.specs.declared.State.{State}
 use Rattle.state.specs.declared.Running.{Running}
+use Rattle.state.specs.Parts.{stateOf, withNumber}
 
--- Document 01, "Operations": P (house layout).
+-- P bit 0: SCR_EL3.NS. 0 is Secure state.
 abbrev pub NS : State → Bool
 NS s = isSet 0 (s .p)
 
+-- P bit 1: SCR_EL3.EEL2.
 abbrev pub EEL2 : State → Bool
 EEL2 s = isSet 1 (s .p)
 
+-- P bit 2: HCR_EL2.TGE.
 abbrev pub TGE : State → Bool
 TGE s = isSet 2 (s .p)
 
+-- P bit 3: HCR_EL2.E2H.
 abbrev pub E2H : State → Bool
 E2H s = isSet 3 (s .p)
 
+-- P bits 5:4: MDCR_EL3.SBRBE.
 abbrev pub SBRBE : State → ℕ
 SBRBE s = part 5 4 (s .p)
 
+-- P bit 8: SCR_EL3.FGTEn, without which no n-bit traps.
 abbrev pub FGTEn : State → Bool
 FGTEn s = isSet 8 (s .p)
 
--- The bits of P that permit an access at EL1.
+-- P bit 9: the n-bit of reading records. An n-bit that is 0 traps its accesses at EL1.
 abbrev pub nBRBDATA : State → Bool
 nBRBDATA s = isSet 9 (s .p)
 
+-- P bit 10: the n-bit of reading control registers.
 abbrev pub nBRBCTLRead : State → Bool
 nBRBCTLRead s = isSet 10 (s .p)
 
+-- P bit 11: the n-bit of writing control registers.
 abbrev pub nBRBCTLWrite : State → Bool
 nBRBCTLWrite s = isSet 11 (s .p)
 
+-- P bit 12: the n-bit of BRBIDR0_EL1.
 abbrev pub nBRBIDR : State → Bool
 nBRBIDR s = isSet 12 (s .p)
 
+-- P bit 13: the n-bit of BRB IALL.
 abbrev pub nBRBIALL : State → Bool
 nBRBIALL s = isSet 13 (s .p)
 
--- "EL2 is enabled when NS or EEL2 is 1."
+-- EL2 is enabled in the current Security state: always in Non-secure state, in Secure state by EEL2.
 abbrev pub EL2Enabled : State → Bool
 EL2Enabled s = NS s || EEL2 s
 
--- "v1p1 and P bit 6 are both 1": self-hosted EL3 branch recording is enabled (R_JWWFY).
+-- Self-hosted EL3 branch recording is enabled, on a processor that has it (v1p1). P bit 6 is what R_JWWFY makes of
+-- MDCR_EL3.{E3BREC, E3BREW}: the host forms it.
 abbrev pub EL3Recorded : State → Bool
 EL3Recorded s = eqb (s .v1p1) 1 && isSet 6 (s .p)
 
--- Document 01, "Cycles": counting is on. Bit 3 (CC) of BRBCR_EL1 and of BRBCR_EL2, R_MJDLC.
+-- Counting is on: bit 3 (CC) of BRBCR_EL1 and of BRBCR_EL2, also where EL2 is not enabled. R_MJDLC.
 abbrev pub counting : State → Bool
 counting s = isSet 3 (s .brbcr1) && isSet 3 (s .brbcr2)
 
--- Bit 4 (MPRED) of BRBCR_EL1 and of BRBCR_EL2, R_XHWRB.
+-- Mispredictions are shown: bit 4 (MPRED) of BRBCR_EL1 and of BRBCR_EL2, also where EL2 is not enabled. R_XHWRB.
 abbrev pub predictionShown : State → Bool
 predictionShown s = isSet 4 (s .brbcr1) && isSet 4 (s .brbcr2)
 
--- BRBFCR_EL1 bit 7.
+-- BRBFCR_EL1 bit 7: no event is recorded.
 abbrev pub PAUSED : State → Bool
 PAUSED s = isSet 7 (s .brbfcr)
 
--- BRBFCR_EL1 bits 29:28.
+-- BRBFCR_EL1 bits 29:28: which 32 records the record registers show.
 abbrev pub BANK : State → ℕ
 BANK s = part 29 28 (s .brbfcr)
 
--- "A reset's size is 8, 16, 32 or 64."
+-- The sizes that a reset can give: BRBIDR0_EL1.NUMREC.
 abbrev pub sizes : List ℕ
 sizes = 8 ∷ 16 ∷ 32 ∷ 64 ∷ []
 
--- "A fresh state, before any reset, is all zeros."
+-- The state before any reset: every number is 0.
 abbrev pub fresh : State
-fresh = record { level = 0; size = 0; v1p1 = 0; p = 0; brbcr1 = 0; brbcr2 = 0; brbfcr = 0; running = record { count = 0; unknown = 0 } }
+fresh = stateOf []
 
--- The running count after a reset: no record was made since, so the next count is unknown.
+-- The state with another level.
+abbrev pub atLevel : ℕ → State → State
+atLevel level s = withNumber 0 level s
+
+-- The state with another P.
+abbrev pub withPlatform : ℕ → State → State
+withPlatform p s = withNumber 3 p s
+
+-- The state with other control registers.
+abbrev pub withRegisters : ℕ → ℕ → ℕ → State → State
+withRegisters brbcr1 brbcr2 brbfcr s = withNumber 4 brbcr1 (withNumber 5 brbcr2 (withNumber 6 brbfcr s))
+
+-- The state with another running count.
+abbrev pub withRunning : Running → State → State
+withRunning r s = withNumber 7 (r .count) (withNumber 8 (r .unknown) s)
+
+-- The running count after a reset: 0, and the next count is unknown, since no record was made that it could run from.
 abbrev pub runningAfterReset : Running
 runningAfterReset = record { count = 0; unknown = 1 }
 
--- "Reset (house): level 3; P, all registers and the running count 0; size and v1p1 from its fields."
+-- A reset: level 3, its size and v1p1, and 0 in P and in every register. (House: a cold reset leaves much of this unknown on
+-- a processor.)
 abbrev pub afterReset : ℕ → ℕ → State
-afterReset size v1p1 =
-    record { level = 3; size = size; v1p1 = v1p1; p = 0; brbcr1 = 0; brbcr2 = 0; brbfcr = 0; running = runningAfterReset }
-
--- A state with another level, another P, other registers, another running count.
-abbrev pub atLevel : ℕ → State → State
-atLevel level s =
-    record { level = level; size = s .size; v1p1 = s .v1p1; p = s .p; brbcr1 = s .brbcr1; brbcr2 = s .brbcr2; brbfcr = s .brbfcr; running = s .running }
-
-abbrev pub withPlatform : ℕ → State → State
-withPlatform p s =
-    record { level = s .level; size = s .size; v1p1 = s .v1p1; p = p; brbcr1 = s .brbcr1; brbcr2 = s .brbcr2; brbfcr = s .brbfcr; running = s .running }
-
-abbrev pub withRegisters : ℕ → ℕ → ℕ → State → State
-withRegisters brbcr1 brbcr2 brbfcr s =
-    record { level = s .level; size = s .size; v1p1 = s .v1p1; p = s .p; brbcr1 = brbcr1; brbcr2 = brbcr2; brbfcr = brbfcr; running = s .running }
-
-abbrev pub withRunning : Running → State → State
-withRunning r s =
-    record { level = s .level; size = s .size; v1p1 = s .v1p1; p = s .p; brbcr1 = s .brbcr1; brbcr2 = s .brbcr2; brbfcr = s .brbfcr; running = r }
+afterReset size v1p1 = withRunning runningAfterReset (atLevel 3 (withNumber 1 size (withNumber 2 v1p1 fresh)))

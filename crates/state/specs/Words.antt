@@ -1,28 +1,28 @@
--- The state as nine lent numbers (house): level, size, v1p1, P, BRBCR_EL1, BRBCR_EL2, BRBFCR_EL1, count, unknown.
+-- The state in lent numbers: document 01, refusal 7; docs/MANUAL.md, "State and room".
 use Prim.Native.Nat.{ℕ}
-use mathlib.Core.Bool.{cond, _&&_}
-use mathlib.Core.List.{List, [], _∷_, _++_}
+use mathlib.Core.Bool.{cond}
+use mathlib.Core.List.{List, _++_}
 use lib.Dec.{leb}
-use lib.ListN.{length, getD, drop}
+use lib.ListN.{length, drop}
 use Rattle.state.specs.declared.State.{State}
 use Rattle.state.specs.declared.Loaded.{Loaded}
 use Rattle.state.specs.declared.Loaded.the-variants.{Held, Unsound}
+use Rattle.state.specs.Parts.{stateNumbers, stateOf, wordsOf}
 use Rattle.state.specs.Sound.{sound}
-
--- The state that lent numbers hold.
-abbrev pub stateOf : List ℕ → State
-stateOf w =
-    let n : ℕ → ℕ = λ k. getD w k 0 in
-    record { level = n 0; size = n 1; v1p1 = n 2; p = n 3; brbcr1 = n 4; brbcr2 = n 5; brbfcr = n 6; running = record { count = n 7; unknown = n 8 } }
-
-abbrev pub wordsOf : State → List ℕ
-wordsOf s =
-    s .level ∷ s .size ∷ s .v1p1 ∷ s .p ∷ s .brbcr1 ∷ s .brbcr2 ∷ s .brbfcr ∷ s .running .count ∷ s .running .unknown ∷ []
 
 -- Lent numbers once the state is stored: those past the needed ones are as they were. Too few are left alone.
 unfoldable pub stored : State → List ℕ → List ℕ
-stored s w = cond (leb 9 (length w)) (wordsOf s ++ drop 9 w) w
+stored s w = cond (leb stateNumbers (length w)) (wordsOf s ++ drop stateNumbers w) w
 
--- The sound state that lent numbers hold. Refusal 7 is given exactly when they are too few or what they hold is not sound.
+-- A state, judged: held where it is sound.
+unfoldable pub judged : State → Loaded
+judged s = cond (sound s) (Held s) Unsound
+
+-- The state that lent numbers hold, judged; too few hold none.
 unfoldable pub loaded : List ℕ → Loaded
-loaded w = cond (leb 9 (length w) && sound (stateOf w)) (Held (stateOf w)) Unsound
+loaded w = cond (leb stateNumbers (length w)) (judged (stateOf w)) Unsound
+
+-- What is done with the sound state, or with the number of the refusal where there is none: 7.
+abbrev pub ifSound : {A : Type 0} → Loaded → (State → A) → (ℕ → A) → A
+ifSound (Held s) go refuse = go s
+ifSound Unsound go refuse = refuse 7

@@ -3,7 +3,7 @@ ghost use mathlib.Core.Path.{_≡_};
 ghost use mathlib.Core.Bool.{Bool};
 ghost use Rattle.bits.specs.Bits.{oneOf};
 ghost use Rattle.state.specs.Named.{EL2Enabled, EL3Recorded, counting, predictionShown, PAUSED, BANK, sizes, fresh, afterReset, atLevel, withPlatform, withRegisters, withRunning};
-ghost use Rattle.state.specs.Sound.{closed, sound};
+ghost use Rattle.state.specs.Sound.{unavailable, sound};
 ghost use Rattle.state.specs.Words.{stored, loaded};
 
 // P's bits by name (house layout), each as the power of two that it weighs: bit k of x is x / 2^k % 2.
@@ -103,8 +103,8 @@ impl State {
     }
 
     // No state is at such a level, and no event enters it.
-    pub fn closed(self, level: u64) -> bool
-        ensures { λ r. ⌜ r ≡ closed self level ⌝ }
+    pub fn unavailable(self, level: u64) -> bool
+        ensures { λ r. ⌜ r ≡ unavailable self level ⌝ }
     {
         let enabled = self.el2_enabled();
         (level == 2) & !enabled | (level == 1) & (self.p / TGE % 2 == 1) & enabled
@@ -124,8 +124,8 @@ impl State {
             & (self.brbcr1 & CONTROL_MASK == self.brbcr1)
             & (self.brbcr2 & CONTROL_MASK == self.brbcr2)
             & (self.brbfcr & FILTER_MASK == self.brbfcr);
-        let closed = self.closed(self.level);
-        listed & !closed & (running.count <= CAP) & (running.unknown <= 1)
+        let unavailable = self.unavailable(self.level);
+        listed & !unavailable & (running.count <= CAP) & (running.unknown <= 1)
     }
 }
 

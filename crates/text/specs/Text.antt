@@ -1,4 +1,4 @@
--- Texts and numbers as bytes.
+-- Texts and numbers as bytes, in ASCII.
 use Prim.Native.Nat.{ℕ, zero, suc, _+_, _/_, _%_}
 use Prim.Native.Char.{code}
 use Prim.Native.String.{String, [] as nothing, _∷_ as join}
@@ -15,16 +15,16 @@ bytesOfText (join c text) = code c ∷ bytesOfText text
 abbrev pub digit : ℕ → ℕ
 digit n = cond (ltb n 10) (48 + n) (87 + n)
 
--- The lowest k digits of n in a base, highest first.
+-- The lowest so many digits of n in a base, highest first.
 unfoldable pub digits : ℕ → ℕ → ℕ → List ℕ
 digits base zero n = []
-digits base (suc k) n = digits base k (n / base) ++ (digit (n % base) ∷ [])
+digits base (suc count) n = digits base count (n / base) ++ (digit (n % base) ∷ [])
 
--- How many decimal digits n has, of at most k.
+-- How many decimal digits n has, where it has at most so many. 0 has one.
 unfoldable pub decimalCount : ℕ → ℕ → ℕ
 decimalCount zero n = 0
-decimalCount (suc k) n = cond (ltb n 10) 1 (suc (decimalCount k (n / 10)))
+decimalCount (suc most) n = cond (ltb n 10) 1 (suc (decimalCount most (n / 10)))
 
--- A number below 2^64 in decimal.
+-- A number below 2^64, which has 20 digits at most, in decimal.
 unfoldable pub decimal : ℕ → List ℕ
 decimal n = digits 10 (decimalCount 20 n) n

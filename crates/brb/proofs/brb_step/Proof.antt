@@ -1,12 +1,12 @@
 -- One step on lent numbers, as document 01's numbers.
 use borrow.Author.Needs.{needs}
 use mathlib.Core.Path.{ap}
-use Rattle.brb.specs.Face.{asNumbers, stepLeaves}
+use Rattle.brb.specs.Face.{asNumbers, stepResult}
 use Rattle.brb.proofs.brb_step.Statement.{statement}
 use Rattle.brb.proofs.brb_step.Tie as tie
 
 pub brb-step-spec : {M : Type 1} → statement M
-unfolding stepLeaves
+unfolding stepResult
 brb-step-spec =
     tie.close
     (tie.spec

@@ -1,9 +1,11 @@
 -- The step on lent numbers, as defined: what the loaded state steps to is stored, or nothing is touched.
 use borrow.Author.Needs.{needs}
+use Rattle.recorder.specs.Lent.{lentStep}
 use Rattle.recorder.proofs.lent_step.Statement.{statement}
 use Rattle.recorder.proofs.lent_step.Tie as tie
 
 pub lent-step-spec : {M : Type 1} → statement M
+unfolding lentStep
 lent-step-spec =
     tie.close
     (tie.spec

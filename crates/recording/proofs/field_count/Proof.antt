@@ -1,4 +1,4 @@
--- The number of fields, as defined: codes above 7 have no line in the table.
+-- The number of fields, as defined: codes past the last have no line in the table.
 use mathlib.Core.Path.{refl}
 use borrow.Author.Needs.{needs}
 use native.Mathlib.Omega.{arith}

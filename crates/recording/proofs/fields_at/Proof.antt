@@ -12,7 +12,7 @@ use Rattle.number.proofs.Found.{the-type}
 use Rattle.number.specs.declared.Found.{Found}
 use Rattle.number.specs.Number.{numberAt}
 use Rattle.recording.specs.declared.Reading.{Reading}
-use Rattle.recording.specs.declared.Reading.the-variants.{Operation, Malformed}
+use Rattle.recording.specs.declared.Reading.the-variants.{Operation, Refused}
 use Rattle.recording.specs.Recording.{fieldCount, numbersAt, numbersOf, withFields}
 use Rattle.recording.proofs.Cases.{fields-at-most}
 use Rattle.recording.proofs.SoFar.{SoFar, none-yet, and-one, and-none, and-all}
@@ -64,7 +64,7 @@ module _ (s : tie.After-field-count) (r : Read s) where
 
   breaks : {found : Found} → found ≡ numberAt (now (s .before .before .args .bytes)) (r .at) → OneOf (1 ∷ 2 ∷ []) (tagOf the-type found)
       → length (r .list) ≤ s .field-count .result
-      → Malformed (r .at) ≡ asked
+      → Refused 1 (r .at) ≡ asked
   breaks f none more =
       let code = s .before .before .args .code in
       ap (withFields code) (sym (and-none r f none (suc (fieldCount code)) (omega (arith, s .field-count .ensures .0))))

@@ -2,6 +2,7 @@
 use native.Mathlib.Omega.{arith}
 use borrow.Author.Needs.{needs}
 use borrow.Author.Tests.{lt-ltb, le-ltb}
+use Rattle.operation.specs.Operation.{lastCode}
 use Rattle.recording.specs.Recording.{operationAt}
 use Rattle.recording.proofs.Cases.{no-value}
 use Rattle.recording.proofs.operation_at.Statement.{statement}
@@ -19,8 +20,8 @@ operation-at-spec =
     no-value (r .result) (c .match .keys2) (λ m. rw (← r .ensures, m)) (λ m. rw (← r .ensures, m)))
     (λ c.
     let v = c .before .before .code .given in
-    rw (← c .before .before .before .before .number-at .ensures, v .1, lt-ltb 7 (v .0 .0) (omega arith)))
+    rw (← c .before .before .before .before .number-at .ensures, v .1, lt-ltb lastCode (v .0 .0) (omega arith)))
     (λ c κs. omega arith)
     (λ c.
     let v = c .before .before .before .code .given in
-    rw (← c .before .before .before .before .before .number-at .ensures, v .1, le-ltb 7 (v .0 .0) (omega arith), c .fields-at .ensures)))
+    rw (← c .before .before .before .before .before .number-at .ensures, v .1, le-ltb lastCode (v .0 .0) (omega arith), c .fields-at .ensures)))

@@ -5,7 +5,7 @@ use borrow.Author.Tests.{lt-leb, le-leb}
 use mathlib.Core.List.{List}
 use native.Mathlib.Omega.{arith}
 use lib.ListN.{length}
-use Rattle.state.specs.Words.{loaded}
+use Rattle.state.specs.Words.{judged, loaded}
 use Rattle.state.proofs.load.Statement.{statement}
 use Rattle.state.proofs.load.Tie as tie
 
@@ -17,11 +17,11 @@ abbrev words : tie.After-sound → List ℕ
 words c = c .before .before .before .before .before .before .before .before .before .before .before .before .args .words .now
 
 returns-2 : tie.Need-returns-2
-unfolding loaded
+unfolding judged loaded
 returns-2 c = rw (le-leb 9 (length (words (c .before))) (omega arith), ← c .before .sound .ensures, c .if2 .taken)
 
 returns-3 : tie.Need-returns-3
-unfolding loaded
+unfolding judged loaded
 returns-3 c = rw (le-leb 9 (length (words (c .before))) (omega arith), ← c .before .sound .ensures, c .if2 .left)
 
 pub load-spec : {M : Type 1} → statement M

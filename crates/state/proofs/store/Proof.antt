@@ -4,7 +4,8 @@ use borrow.Author.Tests.{lt-leb, le-leb}
 use native.Mathlib.Omega.{arith}
 use lib.ListN.{length, length-set}
 use lib.Seq.{sets-eq}
-use Rattle.state.specs.Words.{stored, wordsOf}
+use Rattle.state.specs.Parts.{wordsOf}
+use Rattle.state.specs.Words.{stored}
 use Rattle.state.proofs.store.Statement.{statement}
 use Rattle.state.proofs.store.Tie as tie
 

@@ -1,12 +1,12 @@
 -- Refusal 5's condition, as defined: each arm knows its operation, and what `closed` answers is put in.
 use borrow.Author.Needs.{needs}
-use Rattle.operation.specs.Refusal.{notPermitted}
-use Rattle.operation.proofs.not_permitted.Statement.{statement}
-use Rattle.operation.proofs.not_permitted.Tie as tie
+use Rattle.operation.specs.Refusal.{wrongLevel}
+use Rattle.operation.proofs.wrong_level.Statement.{statement}
+use Rattle.operation.proofs.wrong_level.Tie as tie
 
-pub not-permitted-spec : {M : Type 1} → statement M
-unfolding notPermitted
-not-permitted-spec =
+pub wrong-level-spec : {M : Type 1} → statement M
+unfolding wrongLevel
+wrong-level-spec =
     tie.close
     (tie.spec
     (λ c. search needs)
@@ -22,8 +22,8 @@ not-permitted-spec =
     (λ c. search needs)
     (λ c. rw (c .enum-told .given .1))
     (λ c. rw (c .enum-told2 .given .1))
-    (λ c. rw (c .before .before .before .o .given .1, c .before .closed .ensures))
-    (λ c. rw (c .before .before .before .before .o2 .given .1, c .before .before .closed2 .ensures))
+    (λ c. rw (c .before .before .before .o .given .1, c .before .unavailable .ensures))
+    (λ c. rw (c .before .before .before .before .o2 .given .1, c .before .before .unavailable2 .ensures))
     (λ c. rw (c .before .enum-told3 .given .1))
     (λ c. rw (c .enum-told4 .given .1))
     (λ c. rw (c .enum-told5 .given .1))

@@ -1,0 +1,31 @@
+-- The state as its numbers, in the order in which a host lends them (house): level, size, v1p1, P, BRBCR_EL1, BRBCR_EL2,
+-- BRBFCR_EL1, the running count, and whether the next count is unknown. docs/MANUAL.md, "State and room".
+use Prim.Native.Nat.{ℕ, zero, suc}
+use mathlib.Core.List.{List, [], _∷_}
+use lib.ListN.{getD}
+use Rattle.state.specs.declared.State.{State}
+
+-- How many they are.
+abbrev pub stateNumbers : ℕ
+stateNumbers = 9
+
+-- The state of these numbers; a number that is not there is taken as 0.
+abbrev pub stateOf : List ℕ → State
+stateOf w =
+    let n : ℕ → ℕ = λ k. getD w k 0 in
+    record { level = n 0; size = n 1; v1p1 = n 2; p = n 3; brbcr1 = n 4; brbcr2 = n 5; brbfcr = n 6; running = record { count = n 7; unknown = n 8 } }
+
+-- The numbers of a state.
+abbrev pub wordsOf : State → List ℕ
+wordsOf s =
+    s .level ∷ s .size ∷ s .v1p1 ∷ s .p ∷ s .brbcr1 ∷ s .brbcr2 ∷ s .brbfcr ∷ s .running .count ∷ s .running .unknown ∷ []
+
+-- A list with n at place k, counted from 0.
+abbrev pub replaced : ℕ → ℕ → List ℕ → List ℕ
+replaced k n [] = []
+replaced zero n (x ∷ list) = n ∷ list
+replaced (suc k) n (x ∷ list) = x ∷ replaced k n list
+
+-- The state with n as its number k: every part of it that changes does so by this.
+abbrev pub withNumber : ℕ → ℕ → State → State
+withNumber k n s = stateOf (replaced k n (wordsOf s))
