@@ -1,4 +1,4 @@
-// What the model answers (document 01, "Refusal numbers", last paragraph).
+// What the model answers (document 01, "Refusal numbers", the paragraph under the table; docs/MANUAL.md, "Refusals").
 ghost use mathlib.Core.Path.{_≡_};
 ghost use Rattle.answer.specs.Answer.{returned, isDone};
 
@@ -18,7 +18,7 @@ pub enum Answer {
     Refused(u64),
 }
 
-// An answer as document 01's two numbers.
+// An answer as its two numbers.
 #[repr(C)]
 pub struct Returned {
     pub number: u64,

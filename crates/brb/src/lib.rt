@@ -1,5 +1,5 @@
-// The functions that a C host calls, on numbers and lent memory (document 01, "Forms for each place"). include/brb.h says
-// what each number means. Everything is decided below: this crate holds exports only.
+// The functions that a C host calls, on numbers and lent memory (document 01, "Forms for each place"; docs/MANUAL.md, "From C").
+// include/brb.h says what each number means. Everything is decided below: this crate holds exports only.
 ghost use mathlib.Core.Path.{_≡_};
 ghost use Rattle.answer.specs.Answer.{returned};
 ghost use Rattle.count.specs.Count.{encoded, decoded, decodedAnswer};

@@ -1,4 +1,4 @@
-// The encoding of a cycle count in BRBINF's CC field (document 01, "Cycles"; BRBINF<n>_EL1.CC).
+// The encoding of a cycle count in BRBINF's field CC (document 01, "Cycles"; docs/MANUAL.md, the same; BRBINF<n>_EL1.CC).
 ghost use mathlib.Core.Path.{_≡_};
 ghost use Rattle.count.specs.Count.{encoded, decoded, decodedAnswer};
 use answer::Answer;
@@ -19,8 +19,8 @@ const LARGEST: u64 = 1_048_575;
 // BRBINF<n>_EL1.CC with all its 14 bits set: the count exceeded the counter.
 const EXCEEDED: u64 = 0x3FFF;
 
-// A count as CC, 256E + M (document 01, "Cycles"). Of a count of 256 and more the nine leading binary digits are kept, and M leaves the first
-// of them out, since it is always 1. The digits below are dropped: a count is rounded down.
+// A count as CC, 256E + M. Of a count of 256 and more the nine leading binary digits are kept, and M leaves the first of them
+// out, since it is always 1. The digits below are dropped: a count is rounded down.
 pub fn encode(n: u64) -> u64
     ensures { λ r. ⌜ r ≡ encoded n ⌝ }
 {
@@ -55,7 +55,7 @@ pub fn decode(cc: u64) -> Decoded
 }
 
 impl Decoded {
-    // As document 01 answers: a value, or refusal 4. A count that exceeded the counter has 1,048,576, which no known count is.
+    // As an answer: a value, or refusal 4. A count that exceeded the counter has 1,048,576, which no known count is.
     pub fn answer(self) -> Answer
         ensures { λ r. ⌜ r ≡ decodedAnswer self ⌝ }
     {

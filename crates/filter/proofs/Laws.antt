@@ -1,5 +1,5 @@
--- The filter in Arm's own words. Document 01 says "the type's filter bit differs from EnI"; R_RBDXK and its five neighbours
--- say "DIRCALL is 1 and EnI is 0, or DIRCALL is 0 and EnI is 1". The two are one.
+-- The filter in Arm's own words. The definition asks whether the type's filter bit differs from EnI; R_RBDXK, R_VBGTZ, R_CKNBH,
+-- R_KKLDV, R_BBNSZ and R_FJYVT each ask whether the bit is 1 and EnI 0, or the bit 0 and EnI 1. The two are one.
 use Prim.Native.Nat.{ℕ, zero, suc, _<_}
 use mathlib.Core.Path.{_≡_, refl}
 use mathlib.Core.Bool.{_&&_, _||_, not}

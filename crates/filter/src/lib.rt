@@ -1,4 +1,5 @@
-// The branch types and the filter (document 01, "Which events become records"; Arm D19.2).
+// The branch types and the filter (document 01, "Which events become records"; docs/MANUAL.md, "Branch types and the filter";
+// Arm D19.2).
 ghost use mathlib.Core.Path.{_≡_};
 ghost use Prim.Native.Nat.{_≤_};
 ghost use Rattle.bits.specs.Bits.{oneOf};

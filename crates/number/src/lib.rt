@@ -1,4 +1,4 @@
-// One number of a recording (document 01, "Recordings").
+// One number of a recording (document 01, "Recordings"; docs/MANUAL.md, the same).
 ghost use mathlib.Core.Path.{_≡_};
 ghost use Prim.Native.Nat.{_+_, _≤_, _<_};
 ghost use lib.ListN.{length, drop};
@@ -14,10 +14,10 @@ pub enum Found {
     Ended,
 }
 
-// What the tenth group counts by: 2^63.
+// What the tenth digit counts by: 2^63.
 const TENTH: u64 = 0x8000_0000_0000_0000;
 
-// The number at a place (document 01, "Recordings"). Its first byte stands apart: only there can the last group be 0.
+// The number at a place. Its first byte stands apart: only there can the last digit be 0.
 pub fn number_at(bytes: &[u8], at: usize) -> Found
     ensures { λ r. ⌜ r ≡ numberAt (now (bytes .entry)) at ⌝ }
 {
@@ -31,9 +31,9 @@ pub fn number_at(bytes: &[u8], at: usize) -> Found
     more_at(bytes, at + 1, first)
 }
 
-// The number whose first byte, just before the place, says that more follow. "Low group first": `value` is what the
-// groups so far come to, and the next counts by `place`. A last group of 0 is not "shortest form". The tenth byte stands
-// after the loop, since of its group only one bit is "below 2^64".
+// The number whose first byte, just before the place, says that more follow. The low digits come first: `value` is what those
+// so far come to, and the next counts by `place`. A last digit of 0 would be one too many. The tenth byte stands after the
+// loop, since of its digit only one bit is left below 2^64.
 fn more_at(bytes: &[u8], at: usize, first: u64) -> Found
     requires { ⌜ (128 ≤ first) × (first < 256) ⌝ }
     ensures { λ r. ⌜ r ≡ continued first (numberIn 9 (drop at (now (bytes .entry))) at) ⌝ }
@@ -94,7 +94,7 @@ fn put(out: &mut [u8], at: usize, n: u64)
 }
 
 // The shortest form of n at a place, where it fits: how many bytes were written, or 0, and then nothing is changed. The
-// tests subtract, since a sum with a large place would wrap (document 01, "Recordings").
+// tests subtract, since a sum with a large place would wrap.
 pub fn write_number(out: &mut [u8], at: usize, n: u64) -> usize
     ensures { λ r. ⌜ r ≡ countIf (now (out .entry)) at (bytesOf n) ⌝ }
     ensures { λ _. ⌜ now (out .exit) ≡ writtenIf (now (out .entry)) at (bytesOf n) ⌝ }

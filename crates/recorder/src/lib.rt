@@ -1,4 +1,4 @@
-// The step: one operation on a state and a lent room (document 01, whole).
+// The step: one operation on a state and a lent room (document 01, whole; docs/MANUAL.md, "Operations").
 ghost use mathlib.Core.Path.{_≡_};
 ghost use Rattle.recorder.specs.Step.{answerOf, accepted, stepOf};
 ghost use Rattle.recorder.specs.Result.{together};

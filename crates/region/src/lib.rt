@@ -1,4 +1,4 @@
-// Where recording is prohibited (document 01; Arm's BRBE Prohibited regions, D19.1.4).
+// Where recording is prohibited (document 01; docs/MANUAL.md, the same; Arm's BRBE Prohibited regions, D19.1.4).
 ghost use mathlib.Core.Path.{_≡_};
 ghost use Rattle.region.specs.Region.{enabled, prohibitedBySBRBE, prohibited};
 use bits::pick_bool;

@@ -59,7 +59,7 @@ records-front (suc n) (a ∷ b ∷ []) rest h = absurd (omega arith)
 records-front (suc n) (a ∷ b ∷ c ∷ room) rest h =
     rw (three n) (ap (λ (l : List Record). placed 0 (a ∷ b ∷ c ∷ room) ∷ l) (records-front n room rest (omega arith)))
 
--- "A new record becomes number 0, the others move up one, the oldest of a full buffer is lost."
+-- A new record stands in front of the list, and the last one falls off.
 pub records-pushed : (size : ℕ) (r : Record) (room : List ℕ) → 1 ≤ size → needed size ≤ length room
     → records size (pushed size r room) ≡ r ∷ take (size - 1) (records size room)
 unfolding records pushed
@@ -123,7 +123,7 @@ kept-after size (ResetTo n) room = kept-cleared n room
 pub length-roomAfter : (size : ℕ) (e : Effect) (room : List ℕ) → length (roomAfter size e room) ≡ length room
 length-roomAfter size e room = kept-after size e room .0
 
--- "Numbers past the needed room are never written."
+-- Numbers past the needed ones are as they were.
 pub past : (size : ℕ) (e : Effect) (room : List ℕ)
     → drop (needed (sizeAfterEffect size e)) (roomAfter size e room) ≡ drop (needed (sizeAfterEffect size e)) room
 past size e room = kept-after size e room .1

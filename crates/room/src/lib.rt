@@ -1,4 +1,5 @@
-// The records, in the room that the caller lends (document 01, "Which events become records", last paragraph).
+// The records, in the room that the caller lends (document 01, "Which events become records", last paragraph; docs/MANUAL.md,
+// "Records" and "State and room").
 ghost use mathlib.Core.Path.{_≡_};
 ghost use mathlib.Core.List.{_++_};
 ghost use Prim.Native.Nat.{_+_, _≤_};
@@ -49,8 +50,7 @@ fn shift(room: &mut [u64], kept: usize)
     }
 }
 
-// "A new record becomes number 0, the others move up one, the oldest of a full buffer is lost." The room is tested by a
-// division, so that no size overflows.
+// A new record becomes number 0, and the others move up by one. The room is tested by a division, so that no size overflows.
 pub fn push(room: &mut [u64], size: u64, r: Record)
     ensures { λ _. ⌜ now (room .exit) ≡ pushed size r (now (room .entry)) ⌝ }
 {
@@ -67,7 +67,7 @@ pub fn push(room: &mut [u64], size: u64, r: Record)
     room[2] = r.target;
 }
 
-// Every record becomes zero. "Numbers past the needed room are never written."
+// Every record becomes zero. Numbers past the needed ones are not written.
 pub fn clear(room: &mut [u64], size: u64)
     ensures { λ _. ⌜ now (room .exit) ≡ cleared size (now (room .entry)) ⌝ }
 {
@@ -102,8 +102,8 @@ fn number_at(room: &[u64], place: usize) -> u64
     if place < room.len() { room[place] } else { 0 }
 }
 
-// Record number r, "or 0 if that is not below the size" ("Access outcomes"). A number above the room's length has no place
-// in it, and three times it could overflow.
+// Record number r, or a zero record where that is not below the size. A number above the room's length has no place in it, and
+// three times it could overflow.
 pub fn record_at(room: &[u64], size: u64, r: u64) -> Record
     ensures { λ result. ⌜ result ≡ numbered r (records size (now (room .entry))) ⌝ }
 {

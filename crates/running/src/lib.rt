@@ -1,5 +1,5 @@
-// The running count (document 01, "Cycles"): "the running count is a struct lent by reference to each step and changed in
-// place."
+// The running count, a struct that is lent by reference to each step and changed in place (document 01, "Cycles";
+// docs/MANUAL.md, the same).
 ghost use mathlib.Core.Path.{_≡_};
 ghost use Prim.Native.Nat.{_+_, min};
 ghost use Rattle.state.specs.Sound.{cap};

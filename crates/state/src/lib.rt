@@ -1,4 +1,4 @@
-// The state of the model (document 01, "Operations" and refusal 7).
+// The state of the model (document 01, "Operations" and refusal 7; docs/MANUAL.md, "State and room").
 ghost use mathlib.Core.Path.{_≡_};
 ghost use mathlib.Core.Bool.{Bool};
 ghost use Rattle.bits.specs.Bits.{oneOf};
@@ -37,7 +37,7 @@ pub const CAP: u64 = 1_048_576;
 // How many lent numbers hold a state.
 pub const STATE_NUMBERS: usize = 9;
 
-// The running count (document 01, "Cycles"), and whether the next record's count is unknown.
+// The running count, and whether the next record's count is unknown.
 pub struct Running {
     pub count: u64,
     pub unknown: u64,
@@ -57,7 +57,7 @@ pub struct State {
     pub running: Running,
 }
 
-// "A reset's size is 8, 16, 32 or 64."
+// The sizes that a reset can give.
 pub fn is_size(size: u64) -> bool
     ensures { λ r. ⌜ r ≡ oneOf sizes size ⌝ }
 {
@@ -102,7 +102,7 @@ impl State {
         self.brbfcr / BANK % 4
     }
 
-    // No state is at such a level, and no event enters it.
+    // The level is not there: no sound state is at it, and no event enters it.
     pub fn unavailable(self, level: u64) -> bool
         ensures { λ r. ⌜ r ≡ unavailable self level ⌝ }
     {
@@ -110,7 +110,7 @@ impl State {
         (level == 2) & !enabled | (level == 1) & (self.p / TGE % 2 == 1) & enabled
     }
 
-    // None of refusal 7's conditions holds.
+    // Every number is in its list, and the level is there.
     pub fn sound(self) -> bool
         ensures { λ r. ⌜ r ≡ sound self ⌝ }
     {
@@ -130,7 +130,7 @@ impl State {
 }
 
 impl State {
-    // "A fresh state, before any reset, is all zeros."
+    // The state before any reset.
     pub fn fresh() -> State
         ensures { λ r. ⌜ r ≡ fresh ⌝ }
     {
