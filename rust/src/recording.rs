@@ -51,7 +51,7 @@ pub fn recording_write(bytes: &mut [u8], at: usize, operation: Operation) -> Ans
 }
 
 /// The operation at a position of a recording, read and stepped on lent numbers: 7 first, with nothing read, then 1 or 2,
-/// then as [`step`]. At the end of the input the answer is 1: who replays a recording stops before it.
+/// then as [`step`](crate::step()). At the end of the input the answer is 1: who replays a recording stops before it.
 #[inline]
 pub fn step_recorded(state: &mut [u64], room: &mut [u64], bytes: &[u8], at: usize) -> Recorded {
     let (lent, length) = (bytes.as_ptr(), bytes.len());
