@@ -1,10 +1,11 @@
-/* A proved model of one processor's Arm branch record buffer (BRBE).
+/* A proved model of one processor's Arm branch record buffer (BRBE), version 0.1.0. docs/MANUAL.md says all of it: what
+ * each operation does, each register, each refusal.
  *
  * The model keeps nothing between calls: the host lends it the state and the records, and each call changes them in
  * place or, where it refuses, leaves every lent number as it was. No call allocates, blocks or fails otherwise.
  *
- * Lent memory is a pointer and a length in numbers (or bytes). A length of 0 may come with any pointer that is not
- * NULL. Two lent areas of one call must not overlap.
+ * Lent memory is a pointer and a length in numbers (or bytes). A length of 0 may come with any pointer, NULL too, at
+ * every function: the area is then never touched. Two lent areas of one call must not overlap.
  *
  * The state is BRB_STATE_NUMBERS numbers, in this order: level, size, v1p1, P, BRBCR_EL1, BRBCR_EL2, BRBFCR_EL1, the
  * running count, and whether the next count is unknown. All zeros is a fresh state, in which only a reset is accepted.
@@ -25,7 +26,14 @@
  *     5    refused: the level does not permit the operation
  *     6    refused: the room is too short
  *     7    refused: the state is not sound, or its memory is too short to hold it
- * Refusals are checked in the order 7, 2, 3, 4, 5, 6, and have the value 0. A refused operation's cycles do not count. */
+ * Refusals are checked in the order 7, 2, 3, 4, 5, 6, and have the value 0. A refused operation's cycles do not count.
+ *
+ * The archive, libbrb.a, is for Linux on x86-64 (x86_64-unknown-linux-gnu: ELF, the System V calling convention), and calls
+ * memmove and memset of the C library and nothing else. Its code is position independent; it becomes a shared library by
+ *     gcc -shared -o libbrb.so -Wl,--whole-archive libbrb.a -Wl,--no-whole-archive
+ *
+ * This file stands alone, from C89 to C23 and from C++98 to C++23. It takes uint64_t from <stdint.h>, which C89 and C++98
+ * do not promise and which gcc and clang have in every mode. */
 #ifndef BRB_H
 #define BRB_H
 
@@ -36,11 +44,185 @@
 extern "C" {
 #endif
 
+/* This header's version. It grows in MAJOR where a host has to change, in MINOR where something is added. */
+#define BRB_VERSION_MAJOR 0
+#define BRB_VERSION_MINOR 1
+#define BRB_VERSION_PATCH 0
+#define BRB_VERSION "0.1.0"
+
+/* A constant of 64 bits. C89 has no literal for it, and C++ warns of C's casts. */
+#ifdef __cplusplus
+#define BRB_NUMBER(n) (static_cast<uint64_t>(n))
+#else
+#define BRB_NUMBER(n) ((uint64_t)(n))
+#endif
+
+/* Bit n, and the field of bits `high` to `low`, as masks. */
+#define BRB_BIT(n) (BRB_NUMBER(1) << (n))
+#define BRB_FIELD(high, low) ((BRB_BIT((high) - (low) + 1) - 1) << (low))
+
+/* Codes of operations. */
+#define BRB_CODE_RESET 0
+#define BRB_CODE_BRANCH 1
+#define BRB_CODE_EXCEPTION 2
+#define BRB_CODE_RETURN 3
+#define BRB_CODE_PLATFORM 4
+#define BRB_CODE_READ 5
+#define BRB_CODE_WRITE 6
+#define BRB_CODE_IALL 7
+
+/* Answers of accepted operations. */
+#define BRB_DONE 0
+#define BRB_UNDEFINED 100
+#define BRB_TRAP2 102
+#define BRB_TRAP3 103
+
+/* Refusals. */
+#define BRB_REFUSED_MALFORMED 1
+#define BRB_REFUSED_CODE 2
+#define BRB_REFUSED_NOT_RESET 3
+#define BRB_REFUSED_OUTSIDE_LIST 4
+#define BRB_REFUSED_LEVEL 5
+#define BRB_REFUSED_ROOM 6
+#define BRB_REFUSED_STATE 7
+
+/* Whether an answer's number is a refusal. */
+#define BRB_IS_REFUSED(number) ((number) != BRB_DONE && (number) < BRB_UNDEFINED)
+
+/* Registers, as reads and writes name them; m is from 0 to 31. */
+#define BRB_REGISTER_BRBIDR0_EL1 0
+#define BRB_REGISTER_BRBCR_EL1 1
+#define BRB_REGISTER_BRBCR_EL2 2
+#define BRB_REGISTER_BRBFCR_EL1 3
+#define BRB_REGISTER_BRBINF(m) (32 + (m))
+#define BRB_REGISTER_BRBSRC(m) (64 + (m))
+#define BRB_REGISTER_BRBTGT(m) (96 + (m))
+
+/* What BRBIDR0_EL1 reads for a buffer of this size. */
+#define BRB_BRBIDR0_EL1(size) (0x5000 + (size))
+
 /* How many numbers a state has. */
 #define BRB_STATE_NUMBERS 9
 
-/* How many numbers the records of a buffer of this size take. */
+/* Where each number of a state stands. */
+#define BRB_STATE_LEVEL 0
+#define BRB_STATE_SIZE 1
+#define BRB_STATE_V1P1 2
+#define BRB_STATE_P 3
+#define BRB_STATE_BRBCR_EL1 4
+#define BRB_STATE_BRBCR_EL2 5
+#define BRB_STATE_BRBFCR_EL1 6
+#define BRB_STATE_COUNT 7
+#define BRB_STATE_UNKNOWN 8
+
+/* How many numbers the records of a buffer of this size take; the largest size, and the room for it. */
 #define BRB_ROOM_NUMBERS(size) (3 * (size))
+#define BRB_LARGEST_SIZE 64
+#define BRB_LARGEST_ROOM BRB_ROOM_NUMBERS(BRB_LARGEST_SIZE)
+
+/* Levels. */
+#define BRB_LEVEL_EL0 0
+#define BRB_LEVEL_EL1 1
+#define BRB_LEVEL_EL2 2
+#define BRB_LEVEL_EL3 3
+
+/* Types of branches, as an operation names them and a record shows them. */
+#define BRB_TYPE_DIRECT 0
+#define BRB_TYPE_INDIRECT 1
+#define BRB_TYPE_DIRCALL 2
+#define BRB_TYPE_INDCALL 3
+#define BRB_TYPE_RTN 5
+#define BRB_TYPE_CONDDIR 8
+
+/* The type that the record of an exception return shows. No operation names it. */
+#define BRB_TYPE_EXCEPTION_RETURN 7
+
+/* Types of exceptions. */
+#define BRB_TYPE_CALL 0x22
+#define BRB_TYPE_TRAP 0x23
+#define BRB_TYPE_SERROR 0x24
+#define BRB_TYPE_INSTRUCTION_DEBUG 0x26
+#define BRB_TYPE_DATA_DEBUG 0x27
+#define BRB_TYPE_ALIGNMENT 0x2A
+#define BRB_TYPE_INSTRUCTION_FAULT 0x2B
+#define BRB_TYPE_DATA_FAULT 0x2C
+#define BRB_TYPE_IRQ 0x2E
+#define BRB_TYPE_FIQ 0x2F
+
+/* The platform word P: its bits, and all that it may have. SBRBE is a field of two bits: BRB_P_SBRBE_IS(n) has n in it. */
+#define BRB_P_NS BRB_BIT(0)
+#define BRB_P_EEL2 BRB_BIT(1)
+#define BRB_P_TGE BRB_BIT(2)
+#define BRB_P_E2H BRB_BIT(3)
+#define BRB_P_SBRBE BRB_FIELD(5, 4)
+#define BRB_P_SBRBE_IS(n) (BRB_NUMBER(n) << 4)
+#define BRB_P_EL3_RECORDING BRB_BIT(6)
+#define BRB_P_FGTEN BRB_BIT(8)
+#define BRB_P_NBRBDATA_READ BRB_BIT(9)
+#define BRB_P_NBRBCTL_READ BRB_BIT(10)
+#define BRB_P_NBRBCTL_WRITE BRB_BIT(11)
+#define BRB_P_NBRBIDR BRB_BIT(12)
+#define BRB_P_NBRBIALL BRB_BIT(13)
+#define BRB_P_MASK BRB_NUMBER(0x3F7F)
+
+/* BRBCR_EL1 and BRBCR_EL2: their bits, and all that a write keeps. */
+#define BRB_CONTROL_E0BRE BRB_BIT(0)
+#define BRB_CONTROL_E0HBRE BRB_BIT(0)
+#define BRB_CONTROL_E1BRE BRB_BIT(1)
+#define BRB_CONTROL_E2BRE BRB_BIT(1)
+#define BRB_CONTROL_CC BRB_BIT(3)
+#define BRB_CONTROL_MPRED BRB_BIT(4)
+#define BRB_CONTROL_TS BRB_FIELD(6, 5)
+#define BRB_CONTROL_FZP BRB_BIT(8)
+#define BRB_CONTROL_ERTN BRB_BIT(22)
+#define BRB_CONTROL_EXCEPTION BRB_BIT(23)
+#define BRB_CONTROL_MASK BRB_NUMBER(0xC0017B)
+
+/* BRBFCR_EL1: its bits, and all that a write keeps. BANK is a field of two bits: BRB_FILTER_BANK_IS(n) has n in it. */
+#define BRB_FILTER_PAUSED BRB_BIT(7)
+#define BRB_FILTER_ENI BRB_BIT(16)
+#define BRB_FILTER_DIRECT BRB_BIT(17)
+#define BRB_FILTER_INDIRECT BRB_BIT(18)
+#define BRB_FILTER_RTN BRB_BIT(19)
+#define BRB_FILTER_INDCALL BRB_BIT(20)
+#define BRB_FILTER_DIRCALL BRB_BIT(21)
+#define BRB_FILTER_CONDDIR BRB_BIT(22)
+#define BRB_FILTER_BANK BRB_FIELD(29, 28)
+#define BRB_FILTER_BANK_IS(n) (BRB_NUMBER(n) << 28)
+#define BRB_FILTER_MASK BRB_NUMBER(0x307F0080)
+
+/* BRBINF: its fields, and each taken out of a value. */
+#define BRB_INF_VALID BRB_FIELD(1, 0)
+#define BRB_INF_MPRED BRB_BIT(5)
+#define BRB_INF_LEVEL BRB_FIELD(7, 6)
+#define BRB_INF_TYPE BRB_FIELD(13, 8)
+#define BRB_INF_CC BRB_FIELD(45, 32)
+#define BRB_INF_CCU BRB_BIT(46)
+#define BRB_INF_VALID_OF(inf) ((inf) & BRB_INF_VALID)
+#define BRB_INF_MPRED_OF(inf) (((inf) & BRB_INF_MPRED) >> 5)
+#define BRB_INF_LEVEL_OF(inf) (((inf) & BRB_INF_LEVEL) >> 6)
+#define BRB_INF_TYPE_OF(inf) (((inf) & BRB_INF_TYPE) >> 8)
+#define BRB_INF_CC_OF(inf) (((inf) & BRB_INF_CC) >> 32)
+#define BRB_INF_CCU_OF(inf) (((inf) & BRB_INF_CCU) >> 46)
+
+/* What VALID says of a record. */
+#define BRB_VALID_NONE 0
+#define BRB_VALID_HALF_TARGET 1
+#define BRB_VALID_HALF_SOURCE 2
+#define BRB_VALID_FULL 3
+
+/* The largest known count; what the running count stops at, which a decoded count is where it exceeded the counter; and
+ * the CC that says so. */
+#define BRB_COUNT_LARGEST 1048575
+#define BRB_COUNT_EXCEEDED 1048576
+#define BRB_CC_EXCEEDED 0x3FFF
+
+/* How many numbers an operation of a recording is read into: code, cycles, a, b, c, d. */
+#define BRB_OPERATION_NUMBERS 6
+
+/* How many bytes a number of a recording has at most, and an operation. */
+#define BRB_NUMBER_BYTES 10
+#define BRB_OPERATION_BYTES 60
 
 struct brb_answer {
     uint64_t number;
@@ -58,11 +240,13 @@ struct brb_answer {
  *     7  BRB IALL
  * Numbers beyond an operation's own fields are not looked at.
  * Registers: 0 BRBIDR0_EL1, 1 BRBCR_EL1, 2 BRBCR_EL2, 3 BRBFCR_EL1, and with m from 0 to 31, 32+m BRBINF, 64+m BRBSRC,
- * 96+m BRBTGT. */
+ * 96+m BRBTGT.
+ * No state at all (a length of 0, NULL too) is 7; no room at all is 6, where nothing else is refused. */
 struct brb_answer brb_step(uint64_t *state, size_t state_numbers, uint64_t *room, size_t room_numbers, uint64_t code,
                            uint64_t cycles, uint64_t a, uint64_t b, uint64_t c, uint64_t d);
 
-/* A read of a register: the same as brb_step with code 5. It changes the state, since its cycles count. */
+/* A read of a register: the same as brb_step with code 5, no state and no room too. It changes the state, since its cycles
+ * count. */
 struct brb_answer brb_read(uint64_t *state, size_t state_numbers, uint64_t *room, size_t room_numbers, uint64_t cycles,
                            uint64_t reg);
 
@@ -77,7 +261,8 @@ struct brb_answer brb_count_decode(uint64_t cc);
  * BRBFCR_EL1. Number 0 with the register of record m + 32 * bank, or with 0 where that is not below the size; number 4 with
  * 0 where the size is none of 8, 16, 32 and 64, `bank` is above 3 or `m` above 31; else number 6 with 0 where the room is
  * too short for the size. Nothing is written, no state is needed and no cycles pass: a host looks at records without an
- * operation. For a state's own size and BANK the value is what a performed read of the register reads. */
+ * operation. For a state's own size and BANK the value is what a performed read of the register reads. No room at all (a
+ * length of 0, NULL too) is 6, after 4. */
 struct brb_answer brb_bank_inf(const uint64_t *room, size_t room_numbers, uint64_t size, uint64_t bank, uint64_t m);
 struct brb_answer brb_bank_source(const uint64_t *room, size_t room_numbers, uint64_t size, uint64_t bank, uint64_t m);
 struct brb_answer brb_bank_target(const uint64_t *room, size_t room_numbers, uint64_t size, uint64_t bank, uint64_t m);
@@ -85,22 +270,18 @@ struct brb_answer brb_bank_target(const uint64_t *room, size_t room_numbers, uin
 /* Recordings: operations one after another, each a code, its cycles and its fields. A number is in groups of seven bits,
  * low group first, top bit set when more follow, at most ten bytes, in its shortest form. */
 
-/* How many numbers an operation is read into: code, cycles, a, b, c, d. */
-#define BRB_OPERATION_NUMBERS 6
-
-/* How many bytes an operation has at most. */
-#define BRB_OPERATION_BYTES 60
-
 /* The operation at position `at` of a recording, into `place`: code, cycles, then its fields, and 0 for those that it has
  * not. Answers 0 and the position after it; or 6 where `place` has fewer than BRB_OPERATION_NUMBERS (checked first), 1
  * where a number is malformed or the input ends inside the operation, 2 where the code is above 7, each with the value 0
- * and `place` as it was. Numbers of `place` past the six are never written. */
+ * and `place` as it was. Numbers of `place` past the six are never written. No place at all (a length of 0, NULL too) is 6,
+ * no bytes at all are 1. */
 struct brb_answer brb_recording_read(const uint8_t *bytes, size_t length, size_t at, uint64_t *place,
                                      size_t place_numbers);
 
 /* An operation at position `at` of lent bytes. Answers 0 and the number of bytes written; or 2 where the code is above 7,
  * then 6 where the operation has no room there, each with the value 0 and no byte written. Nothing else is checked: any
- * numbers are written. Bytes before and past the operation are never written. */
+ * numbers are written. Bytes before and past the operation are never written. No bytes at all (a length of 0, NULL too) are
+ * 6, after 2. */
 struct brb_answer brb_recording_write(uint8_t *bytes, size_t length, size_t at, uint64_t code, uint64_t cycles,
                                       uint64_t a, uint64_t b, uint64_t c, uint64_t d);
 
@@ -113,7 +294,8 @@ struct brb_recorded {
 /* One operation of a recording: 7 first, with nothing read (`next` is `at`); then the operation is read, 1 or 2 (`next` is
  * where the bad number starts); then it is stepped as brb_step does (`next` is the position after it). After 7, 1 or 2
  * reading stops, after another refusal it goes on. At the end of the input the answer is 1: a host that replays a
- * recording stops before it. */
+ * recording stops before it. No state at all (a length of 0, NULL too) is 7, no bytes at all are 1, no room at all is 6,
+ * where nothing else is refused. */
 struct brb_recorded brb_step_recorded(uint64_t *state, size_t state_numbers, uint64_t *room, size_t room_numbers,
                                       const uint8_t *bytes, size_t length, size_t at);
 

@@ -18,7 +18,7 @@ type Step = fn(&mut [u64], &mut [u64], Numbers) -> (u64, u64);
 
 #[inline(never)]
 fn library(state: &mut [u64], room: &mut [u64], [code, cycles, fields @ ..]: Numbers) -> (u64, u64) {
-    let answer = face::step(state, room, face::Operation { code, cycles, fields });
+    let answer = brb::step(state, room, brb::Operation { code, cycles, fields });
     (answer.number, answer.value)
 }
 

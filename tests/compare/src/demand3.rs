@@ -7,7 +7,7 @@
 use crate::generate::{Flavour, Generator};
 use crate::shrink::shrink;
 use crate::{Call, Engine, Random, Sequence};
-use face::Count;
+use brb::Count;
 
 /// The first address that is given to an event. Event n has source BASE + 2n and target BASE + 2n + 1.
 const BASE: u64 = 1 << 40;
@@ -85,7 +85,7 @@ fn valid(record: &[u64]) -> u64 {
 /// A valid record's known and not exceeded count.
 fn counted(record: &[u64]) -> Option<u64> {
     let known = valid(record) != 0 && record[0] >> 46 & 1 == 0;
-    match face::decoded(record[0] >> 32 & 0x3FFF) {
+    match brb::decoded(record[0] >> 32 & 0x3FFF) {
         Some(Count::Known(count)) if known => Some(count),
         _ => None,
     }

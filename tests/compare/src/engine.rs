@@ -29,27 +29,27 @@ impl Engine for Library {
     }
 
     fn step(&self, state: &mut [u64], room: &mut [u64], Call([code, cycles, fields @ ..]): Call) -> (u64, u64) {
-        let answer = face::step(state, room, face::Operation { code, cycles, fields });
+        let answer = brb::step(state, room, brb::Operation { code, cycles, fields });
         (answer.number, answer.value)
     }
 
     fn read(&self, state: &mut [u64], room: &mut [u64], cycles: u64, register: u64) -> (u64, u64) {
-        let answer = face::read(state, room, cycles, register);
+        let answer = brb::read(state, room, cycles, register);
         (answer.number, answer.value)
     }
 
     fn recording_read(&self, bytes: &[u8], at: usize, place: &mut [u64]) -> (u64, u64) {
-        let answer = face::recording_read(bytes, at, place);
+        let answer = brb::recording_read(bytes, at, place);
         (answer.number, answer.value)
     }
 
     fn recording_write(&self, bytes: &mut [u8], at: usize, Call([code, cycles, fields @ ..]): Call) -> (u64, u64) {
-        let answer = face::recording_write(bytes, at, face::Operation { code, cycles, fields });
+        let answer = brb::recording_write(bytes, at, brb::Operation { code, cycles, fields });
         (answer.number, answer.value)
     }
 
     fn step_recorded(&self, state: &mut [u64], room: &mut [u64], bytes: &[u8], at: usize) -> ((u64, u64), u64) {
-        let recorded = face::step_recorded(state, room, bytes, at);
+        let recorded = brb::step_recorded(state, room, bytes, at);
         ((recorded.number, recorded.value), recorded.next)
     }
 }

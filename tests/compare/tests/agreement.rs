@@ -57,7 +57,7 @@ fn every_count_and_encoding() {
     let mut random = Random::new(seed);
     let beyond: Vec<u64> = (0..1_000_000).map(|_| random.of_length(64)).chain([u64::MAX]).collect();
     for count in (0..1_100_000).chain(beyond.iter().copied()) {
-        assert_eq!(face::count_encode(count), model::count::encode(count), "count {count}");
+        assert_eq!(brb::count_encode(count), model::count::encode(count), "count {count}");
     }
     for cc in (0..0x2_0000).chain(beyond) {
         let expected = match model::count::decode(cc) {
@@ -65,7 +65,7 @@ fn every_count_and_encoding() {
             Some(model::count::Count::Exceeded) => (0, 1_048_576),
             None => (4, 0),
         };
-        let answer = face::count_decode(cc);
+        let answer = brb::count_decode(cc);
         assert_eq!((answer.number, answer.value), expected, "encoding {cc:#x}");
     }
 }

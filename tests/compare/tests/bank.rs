@@ -26,9 +26,9 @@ type View = fn(&[u64], u64, u64, u64, Part) -> Result<u64, Refusal>;
 
 fn by_library(room: &[u64], size: u64, bank: u64, m: u64, part: Part) -> (u64, u64) {
     let view = match part {
-        Part::Inf => face::bank_inf,
-        Part::Source => face::bank_source,
-        Part::Target => face::bank_target,
+        Part::Inf => brb::bank_inf,
+        Part::Source => brb::bank_source,
+        Part::Target => brb::bank_target,
     };
     let answer = view(room, size, bank, m);
     (answer.number, answer.value)

@@ -57,6 +57,9 @@ planted! {
     })
     ("counts are rounded to nearest", RoundedToNearest {
         fn encode(&self, count: u64) -> u64 {
+            if count > count::LARGEST {
+                return count::encode(count);
+            }
             let exponent = count::encode(count) / 256;
             let half = if exponent > 1 { 1 << (exponent - 2) } else { 0 };
             count::encode(count.min(count::LARGEST - half) + half)

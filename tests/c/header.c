@@ -1,0 +1,69 @@
+/* include/brb.h by itself: its constants fit together. C89 and C++98 at once, so that every later standard takes it too. */
+#include "brb.h"
+
+/* The header's second inclusion is nothing. */
+#include "brb.h"
+
+#include <stdio.h>
+#include <string.h>
+
+static unsigned passed, failed;
+
+static void check(int holds, const char *what) {
+    if (holds) {
+        passed++;
+    } else {
+        failed++;
+        fprintf(stderr, "header: failed: %s\n", what);
+    }
+}
+
+/* Constants that fit an int can be asked by the preprocessor. */
+#if BRB_VERSION_MAJOR != 0 || BRB_STATE_NUMBERS != BRB_STATE_UNKNOWN + 1 || BRB_LARGEST_ROOM != 192
+#error "brb.h: a constant is not what it was"
+#endif
+
+static void masks(void) {
+    uint64_t all = BRB_P_NS | BRB_P_EEL2 | BRB_P_TGE | BRB_P_E2H | BRB_P_SBRBE | BRB_P_EL3_RECORDING | BRB_P_FGTEN;
+    all |= BRB_P_NBRBDATA_READ | BRB_P_NBRBCTL_READ | BRB_P_NBRBCTL_WRITE | BRB_P_NBRBIDR | BRB_P_NBRBIALL;
+    check(all == BRB_P_MASK, "P's bits are its mask");
+    all = BRB_CONTROL_E0BRE | BRB_CONTROL_E1BRE | BRB_CONTROL_CC | BRB_CONTROL_MPRED | BRB_CONTROL_TS | BRB_CONTROL_FZP;
+    check((all | BRB_CONTROL_ERTN | BRB_CONTROL_EXCEPTION) == BRB_CONTROL_MASK, "BRBCR's bits are its mask");
+    check(BRB_CONTROL_E0HBRE == BRB_CONTROL_E0BRE && BRB_CONTROL_E2BRE == BRB_CONTROL_E1BRE, "BRBCR_EL2's names");
+    all = BRB_FILTER_PAUSED | BRB_FILTER_ENI | BRB_FILTER_DIRECT | BRB_FILTER_INDIRECT | BRB_FILTER_RTN;
+    all |= BRB_FILTER_INDCALL | BRB_FILTER_DIRCALL | BRB_FILTER_CONDDIR | BRB_FILTER_BANK;
+    check(all == BRB_FILTER_MASK, "BRBFCR_EL1's bits are its mask");
+    check((BRB_P_NS | BRB_P_SBRBE_IS(3)) == 49, "S1's P");
+    check(BRB_P_SBRBE_IS(3) == BRB_P_SBRBE && BRB_FILTER_BANK_IS(3) == BRB_FILTER_BANK, "fields of two bits");
+    check(~BRB_P_MASK >> 32 == 0xFFFFFFFF, "a mask has 64 bits");
+}
+
+static void fields(void) {
+    uint64_t inf = (BRB_NUMBER(0x12C) << 32) | 0x843; /* of session S1 */
+    check(BRB_INF_CCU_OF(inf) == 0 && BRB_INF_CC_OF(inf) == 300, "the count's fields");
+    check(BRB_INF_TYPE_OF(inf) == BRB_TYPE_CONDDIR && BRB_INF_LEVEL_OF(inf) == BRB_LEVEL_EL1, "type and level");
+    check(BRB_INF_MPRED_OF(inf) == 0 && BRB_INF_VALID_OF(inf) == BRB_VALID_FULL, "MPRED and VALID");
+    check(BRB_INF_CCU_OF(BRB_INF_CCU) == 1 && BRB_INF_MPRED_OF(BRB_INF_MPRED) == 1, "fields of one bit");
+    check(BRB_INF_CC_OF(BRB_INF_CC) == BRB_CC_EXCEEDED, "CC's width");
+}
+
+static void answers(void) {
+    uint64_t number;
+    for (number = 1; number <= 7; number++) check(BRB_IS_REFUSED(number), "1 to 7 are refusals");
+    check(!BRB_IS_REFUSED(BRB_DONE) && !BRB_IS_REFUSED(BRB_UNDEFINED), "0 and 100 are none");
+    check(!BRB_IS_REFUSED(BRB_TRAP2) && !BRB_IS_REFUSED(BRB_TRAP3), "102 and 103 are none");
+    check(strlen(BRB_VERSION) >= 5, "the version as text");
+}
+
+int main(void) {
+    struct brb_answer answer;
+    masks();
+    fields();
+    answers();
+    check(brb_count_encode(BRB_COUNT_LARGEST) == 0xCFF, "the largest count");
+    check(brb_count_encode(BRB_COUNT_EXCEEDED) == BRB_CC_EXCEEDED, "a count that exceeded");
+    answer = brb_count_decode(BRB_CC_EXCEEDED);
+    check(answer.number == BRB_DONE && answer.value == BRB_COUNT_EXCEEDED, "it decodes");
+    printf("header: %u checks passed, %u failed\n", passed, failed);
+    return failed != 0;
+}

@@ -1,0 +1,88 @@
+/* No memory at all: every lent area of every function as NULL with the length 0, alone and with the others. */
+#include "brb.h"
+#include <stdio.h>
+
+static unsigned passed, failed;
+
+static void check(int holds, const char *what) {
+    if (holds) {
+        passed++;
+    } else {
+        failed++;
+        fprintf(stderr, "nothing: failed: %s\n", what);
+    }
+}
+
+static int is(struct brb_answer answer, uint64_t number) { return answer.number == number && answer.value == 0; }
+
+static uint64_t state[BRB_STATE_NUMBERS], room[BRB_LARGEST_ROOM];
+
+static void steps(void) {
+    for (uint64_t code = 0; code <= 8; code++) {
+        check(is(brb_step(NULL, 0, NULL, 0, code, 1, 8, 0, 0, 0), 7), "brb_step: no state and no room");
+        check(is(brb_step(NULL, 0, room, BRB_LARGEST_ROOM, code, 1, 8, 0, 0, 0), 7), "brb_step: no state");
+    }
+    check(is(brb_step(state, BRB_STATE_NUMBERS, NULL, 0, BRB_CODE_RESET, 1, 8, 0, 0, 0), 6), "brb_step: no room");
+    check(is(brb_read(NULL, 0, NULL, 0, 1, 0), 7), "brb_read: no state and no room");
+    check(is(brb_read(NULL, 0, room, BRB_LARGEST_ROOM, 1, 0), 7), "brb_read: no state");
+    check(is(brb_read(state, BRB_STATE_NUMBERS, NULL, 0, 1, 0), 3), "brb_read: no room, before a reset");
+    brb_step(state, BRB_STATE_NUMBERS, room, BRB_LARGEST_ROOM, BRB_CODE_RESET, 0, 64, 1, 0, 0);
+    for (uint64_t reg = 0; reg < 128; reg++) {
+        uint64_t number = reg > 3 && reg < 32 ? 4 : 6;
+        check(is(brb_read(state, BRB_STATE_NUMBERS, NULL, 0, 1, reg), number), "brb_read: no room");
+    }
+    static const uint64_t permitted[8][2] = {{64, 0}, {BRB_TYPE_RTN, 0}, {BRB_TYPE_IRQ, 3}, {3, 0}, {49, 0}, {32, 0}, {3, 0}};
+    for (uint64_t code = 0; code <= 7; code++) {
+        const uint64_t *f = permitted[code];
+        struct brb_answer answer = brb_step(state, BRB_STATE_NUMBERS, NULL, 0, code, 1, f[0], f[1], 0, 0);
+        check(is(answer, 6), "brb_step: no room, after a reset");
+    }
+}
+
+static void banks(void) {
+    for (uint64_t bank = 0; bank <= 4; bank++) {
+        for (uint64_t m = 0; m <= 32; m++) {
+            uint64_t number = bank > 3 || m > 31 ? 4 : 6;
+            check(is(brb_bank_inf(NULL, 0, 64, bank, m), number), "brb_bank_inf: no room");
+            check(is(brb_bank_source(NULL, 0, 64, bank, m), number), "brb_bank_source: no room");
+            check(is(brb_bank_target(NULL, 0, 64, bank, m), number), "brb_bank_target: no room");
+        }
+    }
+}
+
+static void recordings(void) {
+    static const uint8_t reset[] = {0, 0, 8, 0};
+    uint64_t place[BRB_OPERATION_NUMBERS] = {0};
+    static const size_t ats[] = {0, 1, SIZE_MAX};
+    for (size_t i = 0; i < 3; i++) {
+        size_t at = ats[i];
+        check(is(brb_recording_read(NULL, 0, at, place, BRB_OPERATION_NUMBERS), 1), "brb_recording_read: no bytes");
+        check(is(brb_recording_read(NULL, 0, at, NULL, 0), 6), "brb_recording_read: no bytes and no place");
+        check(is(brb_recording_read(reset, sizeof reset, at, NULL, 0), 6), "brb_recording_read: no place");
+        for (uint64_t code = 0; code <= 8; code++)
+            check(is(brb_recording_write(NULL, 0, at, code, 1, 2, 3, 4, 5), code > 7 ? 2 : 6), "brb_recording_write");
+    }
+}
+
+static void recorded(void) {
+    static const uint8_t reset[] = {0, 0, 8, 0};
+    struct brb_recorded r = brb_step_recorded(NULL, 0, NULL, 0, NULL, 0, 0);
+    check(r.number == 7 && r.value == 0 && r.next == 0, "brb_step_recorded: nothing at all");
+    r = brb_step_recorded(NULL, 0, room, BRB_LARGEST_ROOM, reset, sizeof reset, 0);
+    check(r.number == 7 && r.next == 0, "brb_step_recorded: no state");
+    r = brb_step_recorded(state, BRB_STATE_NUMBERS, room, BRB_LARGEST_ROOM, NULL, 0, 0);
+    check(r.number == 1 && r.next == 0, "brb_step_recorded: no bytes");
+    r = brb_step_recorded(state, BRB_STATE_NUMBERS, NULL, 0, NULL, 0, 0);
+    check(r.number == 1 && r.next == 0, "brb_step_recorded: no room and no bytes");
+    r = brb_step_recorded(state, BRB_STATE_NUMBERS, NULL, 0, reset, sizeof reset, 0);
+    check(r.number == 6 && r.next == 4, "brb_step_recorded: no room");
+}
+
+int main(void) {
+    steps();
+    banks();
+    recordings();
+    recorded();
+    printf("nothing: %u checks passed, %u failed\n", passed, failed);
+    return failed != 0;
+}

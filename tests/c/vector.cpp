@@ -1,0 +1,42 @@
+// Empty vectors, whose data() may be a null pointer, at every function; and S1's first read on vectors that are not empty.
+#include "brb.h"
+#include <iostream>
+#include <vector>
+
+static unsigned passed, failed;
+
+static void check(bool holds, const char *what) {
+    (holds ? passed : failed)++;
+    if (!holds) std::cerr << "vector: failed: " << what << "\n";
+}
+
+static void empty() {
+    std::vector<uint64_t> none;
+    std::vector<uint8_t> no_bytes;
+    check(none.data() == NULL && no_bytes.data() == NULL, "these empty vectors have null pointers");
+    uint64_t *n = none.data();
+    uint8_t *b = no_bytes.data();
+    check(brb_step(n, none.size(), n, none.size(), BRB_CODE_RESET, 0, 8, 0, 0, 0).number == 7, "brb_step");
+    check(brb_read(n, none.size(), n, none.size(), 0, 0).number == 7, "brb_read");
+    check(brb_bank_inf(n, none.size(), 8, 0, 0).number == 6, "brb_bank_inf");
+    check(brb_bank_source(n, none.size(), 8, 0, 0).number == 6, "brb_bank_source");
+    check(brb_bank_target(n, none.size(), 8, 0, 0).number == 6, "brb_bank_target");
+    check(brb_recording_read(b, no_bytes.size(), 0, n, none.size()).number == 6, "brb_recording_read");
+    check(brb_recording_write(b, no_bytes.size(), 0, 7, 0, 0, 0, 0, 0).number == 6, "brb_recording_write");
+    check(brb_step_recorded(n, none.size(), n, none.size(), b, no_bytes.size(), 0).number == 7, "brb_step_recorded");
+}
+
+static void in_use() {
+    std::vector<uint64_t> state(BRB_STATE_NUMBERS), room(BRB_ROOM_NUMBERS(16));
+    brb_answer answer = brb_step(state.data(), state.size(), room.data(), room.size(), BRB_CODE_RESET, 0, 16, 0, 0, 0);
+    check(answer.number == BRB_DONE && state[BRB_STATE_LEVEL] == BRB_LEVEL_EL3, "a reset");
+    answer = brb_read(state.data(), state.size(), room.data(), room.size(), 0, BRB_REGISTER_BRBIDR0_EL1);
+    check(answer.number == BRB_DONE && answer.value == BRB_BRBIDR0_EL1(16), "BRBIDR0_EL1");
+}
+
+int main() {
+    empty();
+    in_use();
+    std::cout << "vector: " << passed << " checks passed, " << failed << " failed\n";
+    return failed != 0;
+}
