@@ -87,12 +87,12 @@ record ReadAll (k : ℕ) (s : List ℕ) (at : ℕ) (list : List ℕ) (next : ℕ
 never : {A : Type 0} → _≡_ {A = ℕ} 0 1 → A
 never e = absurd (omega arith)
 
-front-inv : (n : ℕ) (r : Several) (list : List ℕ) (next : ℕ) → inFront n r ≡ got list next
+pub front-inv : (n : ℕ) (r : Several) (list : List ℕ) (next : ℕ) → inFront n r ≡ got list next
     → (l : List ℕ) × (r ≡ got l next) × (list ≡ n ∷ l)
 front-inv n (got l p) list next e = (l, cc, cc)
 front-inv n (bad number p) list next e = never (cc)
 
-then-inv : (rest : ℕ → Several) (at : ℕ) (f : Found) (list : List ℕ) (next : ℕ) → thenRead rest at f ≡ got list next
+pub then-inv : (rest : ℕ → Several) (at : ℕ) (f : Found) (list : List ℕ) (next : ℕ) → thenRead rest at f ≡ got list next
     → (n : ℕ) × (p : ℕ) × (f ≡ Value n p) × (inFront n (rest p) ≡ got list next)
 then-inv rest at (Value n p) list next e = (n, p, refl, e)
 then-inv rest at Malformed list next e = never (cc)
@@ -145,7 +145,7 @@ pub record ReadOperation (s : List ℕ) (at : ℕ) (x : Numbers) (next : ℕ) : 
   pub further : at < next
   pub within : next ≤ length s
 
-fields-inv : (code : ℕ) (r : Several) (x : Numbers) (next : ℕ) → withFields code r ≡ Operation x next
+pub fields-inv : (code : ℕ) (r : Several) (x : Numbers) (next : ℕ) → withFields code r ≡ Operation x next
     → (list : List ℕ) × (r ≡ got list next) × (numbersOf code list ≡ x)
 fields-inv code (got list p) x next e = (list, cc, cc)
 fields-inv code (bad number p) x next e = never (cc)
