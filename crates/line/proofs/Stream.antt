@@ -28,7 +28,7 @@ use Rattle.line.specs.Stream.{Enough, Turns, brings, replays, stops, end
 
 -- ---- one operation of the input, seen through the unread bytes
 
-abbrev movedStep : ℕ → Recorded → Recorded
+abbrev pub movedStep : ℕ → Recorded → Recorded
 movedStep d r = record { result = r .result; next = d + r .next }
 
 read-moved : (s : State) (room : List ℕ) (d : ℕ) (r : Reading) → stepOfReading s room (movedReading d r) ≡ movedStep d (stepOfReading s room r)
@@ -36,7 +36,7 @@ read-moved s room d (Operation x next) = refl
 read-moved s room d (Refused number place) = refl
 
 -- The bytes before a place only move it.
-step-moved : (s : State) (room bytes : List ℕ) (d at : ℕ) → recordedStep s room bytes (d + at) ≡ movedStep d (recordedStep s room (drop d bytes) at)
+pub step-moved : (s : State) (room bytes : List ℕ) (d at : ℕ) → recordedStep s room bytes (d + at) ≡ movedStep d (recordedStep s room (drop d bytes) at)
 unfolding recordedStep
 step-moved s room bytes d at = go (judged s)
   where
