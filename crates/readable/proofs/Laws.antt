@@ -44,16 +44,6 @@ pub and-part : {out out′ out″ xs ys : List ℕ} {at p q : ℕ} → Put out a
 and-part {out} {out′} {out″} {xs} {ys} {at} {p} {q} first second =
     record { held = behind out out′ out″ xs ys at p q first second }
 
--- A number more, behind others.
-spaced-last : (list : List ℕ) (n : ℕ) → spaced (list ++ (n ∷ [])) ≡ spaced list ++ (bytesOfText " " ++ decimal n)
-unfolding spaced
-spaced-last [] n = append-nil (bytesOfText " " ++ decimal n)
-spaced-last (m ∷ list) n = rw (spaced-last list n) (sym (append-assoc (bytesOfText " " ++ decimal m) (spaced list) (bytesOfText " " ++ decimal n)))
-
-pub one-spaced : (list : List ℕ) (i : ℕ) → i < length list
-    → spaced (take (i + 1) list) ≡ spaced (take i list) ++ (bytesOfText " " ++ decimal (getD list i 0))
-one-spaced list i h = rw (add-one, take-suc list i 0 h) (spaced-last (take i list) (getD list i 0))
-
 -- No line is longer than the longest. What a table has is within a bound where each of its texts is.
 abbrev Short : ℕ → List (ℕ × List ℕ) → Type 0
 Short most [] = Unit {0}

@@ -1,7 +1,7 @@
 // An operation as a line of text, readable or as its numbers. Each function writes at a place of the output's room and
 // answers the place after it. Each promises this where there is room, which the last one asks before it writes.
 ghost use mathlib.Core.Path.{_≡_};
-ghost use mathlib.Core.List.{_++_};
+ghost use mathlib.Core.List.{[], _∷_, _++_};
 ghost use Prim.Native.Nat.{_+_, _≤_};
 ghost use lib.ListN.{length, take};
 ghost use lib.Dec.{leb};
@@ -173,18 +173,27 @@ fn put_operation(out: &mut [u8; ROOM], at: usize, x: Numbers) -> usize
     }
 }
 
-// The first numbers of a list, a space in front of each.
-fn put_spaced(out: &mut [u8; ROOM], at: usize, list: [u64; 5], count: usize) -> usize
-    requires { ⌜ count ≤ 5 ⌝ }
-    ensures { λ r. ⌜ Put (now (out .entry)) at (spaced (take count list)) r (now (out .exit)) ⌝ }
+// The first fields of an operation, as `list --numbers` has them.
+fn put_fields(out: &mut [u8; ROOM], at: usize, x: Numbers, count: u64) -> usize
+    requires { ⌜ count ≤ 4 ⌝ }
+    ensures { λ r. ⌜ Put (now (out .entry)) at (spaced (take count (x .a ∷ x .b ∷ x .c ∷ x .d ∷ []))) r (now (out .exit)) ⌝ }
 {
-    let mut place = at;
-    let mut i = 0;
-    while i < count {
-        place = put_decimal(out, place, b" ", list[i]);
-        i += 1;
+    if count == 0 {
+        return at;
     }
-    place
+    let a = put_decimal(out, at, b" ", x.a);
+    if count == 1 {
+        return a;
+    }
+    let b = put_decimal(out, a, b" ", x.b);
+    if count == 2 {
+        return b;
+    }
+    let c = put_decimal(out, b, b" ", x.c);
+    if count == 3 {
+        return c;
+    }
+    put_decimal(out, c, b" ", x.d)
 }
 
 // The code, the cycles and the operation's own fields, and the line's end.
@@ -192,9 +201,8 @@ fn put_numbers(out: &mut [u8; ROOM], at: usize, x: Numbers) -> usize
     ensures { λ r. ⌜ Put (now (out .entry)) at (numbersLine x) r (now (out .exit)) ⌝ }
 {
     let code = put_decimal(out, at, b"", x.code);
-    let list = [x.cycles, x.a, x.b, x.c, x.d];
-    let count = field_count(x.code) as usize + 1;
-    let fields = put_spaced(out, code, list, count);
+    let cycles = put_decimal(out, code, b" ", x.cycles);
+    let fields = put_fields(out, cycles, x, field_count(x.code));
     put_text(out, fields, b"\n")
 }
 
