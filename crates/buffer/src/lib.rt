@@ -2,6 +2,7 @@
 ghost use Prim.Native.Nat.{_+_, _≤_, min};
 ghost use mathlib.Core.Path.{_≡_};
 ghost use lib.ListN.{length};
+ghost use Rattle.buffer.specs.Buffer.{waiting, movedDown};
 ghost use Rattle.io.specs.Counts.{Counts};
 use libc::STDERR_FILENO;
 use libc::STDOUT_FILENO;
@@ -11,6 +12,7 @@ pub const ROOM: usize = 65_536;
 
 // So many of the bytes, or all.
 pub fn within(n: usize, bytes: &[u8]) -> usize
+    ensures { λ r. ⌜ r ≡ min n (length (now (bytes .entry))) ⌝ }
     ensures { λ r. ⌜ Counts r (now (bytes .entry)) ⌝ }
 {
     if bytes.len() < n {
@@ -45,7 +47,8 @@ pub fn flush(program: &[u8], bytes: &[u8], waiting: usize) -> bool {
 
 // Moves the bytes from `at` to `end` to the front, and answers how many they are.
 pub fn move_down(input: &mut [u8], at: usize, end: usize) -> usize
-    ensures { λ r. ⌜ r ≤ length (now (input .exit)) ⌝ }
+    ensures { λ r. ⌜ (r ≡ length (waiting (now (input .entry)) at end)) × (r ≤ length (now (input .exit))) ⌝ }
+    ensures { λ _. ⌜ now (input .exit) ≡ movedDown (now (input .entry)) at end ⌝ }
 {
     if input.len() < end {
         return 0;

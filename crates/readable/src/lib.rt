@@ -1,60 +1,69 @@
 // An operation as a line of text, readable or as its numbers. Each function writes at a place of the output's room and
-// answers the place after it; what has no room is left out, which the program sees to that it does not happen.
+// answers the place after it. Each promises this where there is room, which the last one asks before it writes.
+ghost use mathlib.Core.Path.{_≡_};
+ghost use mathlib.Core.List.{[], _∷_, _++_};
+ghost use Prim.Native.Nat.{_+_, _≤_};
+ghost use lib.ListN.{length, take};
+ghost use lib.Dec.{leb};
+ghost use Rattle.text.specs.Text.{decimal};
+ghost use Rattle.notation.specs.Text.{spaced, numbersLine};
+ghost use Rattle.readable.specs.Readable.{Put, prefixed, cyclesField, branchTypeField, groupField, registerField, addressFields, resetText, branchText, exceptionText, returnText, platformText, readText, writeText, readableText, readableLine, lineEnd, lineWritten};
 use buffer::ROOM;
 use buffer::forward;
 use recording::Numbers;
 use recording::field_count;
 use text::write_decimal;
-use text::write_hexadecimal;
+use text::write_shortest_hexadecimal;
 use text::write_text;
 
-// A line has fewer bytes than this, its end included.
+// A line has at most this many bytes, its end included.
 pub const LONGEST_LINE: usize = 256;
 
-fn put_text(out: &mut [u8; ROOM], at: usize, text: &[u8]) -> usize {
+fn put_text(out: &mut [u8; ROOM], at: usize, text: &[u8]) -> usize
+    ensures { λ r. ⌜ Put (now (out .entry)) at (now (text .entry)) r (now (out .exit)) ⌝ }
+{
     let n = write_text(out, at, text);
     forward(at, n)
 }
 
 // A name and a number behind it, in decimal.
-fn put_decimal(out: &mut [u8; ROOM], at: usize, name: &[u8], n: u64) -> usize {
+fn put_decimal(out: &mut [u8; ROOM], at: usize, name: &[u8], n: u64) -> usize
+    ensures { λ r. ⌜ Put (now (out .entry)) at (now (name .entry) ++ decimal n) r (now (out .exit)) ⌝ }
+{
     let next = put_text(out, at, name);
     let count = write_decimal(out, next, n);
     forward(next, count)
 }
 
-// How many hexadecimal digits a number has.
-fn digit_count(n: u64) -> usize {
-    let mut rest = n / 16;
-    let mut count = 1;
-    while count < 16 && 0 < rest {
-        rest = rest / 16;
-        count += 1;
-    }
-    count
-}
-
 // A name and a number behind it, in hexadecimal after 0x.
-fn put_hexadecimal(out: &mut [u8; ROOM], at: usize, name: &[u8], n: u64) -> usize {
+fn put_hexadecimal(out: &mut [u8; ROOM], at: usize, name: &[u8], n: u64) -> usize
+    ensures { λ r. ⌜ Put (now (out .entry)) at (now (name .entry) ++ prefixed n) r (now (out .exit)) ⌝ }
+{
     let named = put_text(out, at, name);
     let next = put_text(out, named, b"0x");
-    let count = write_hexadecimal(out, next, digit_count(n), n);
+    let count = write_shortest_hexadecimal(out, next, n);
     forward(next, count)
 }
 
-// The cycles, which every operation has.
-fn put_cycles(out: &mut [u8; ROOM], at: usize, name: &[u8], x: Numbers) -> usize {
-    let next = put_text(out, at, name);
+// An operation's word, and the cycles, which every operation has.
+fn put_opening(out: &mut [u8; ROOM], at: usize, word: &[u8], x: Numbers) -> usize
+    ensures { λ r. ⌜ Put (now (out .entry)) at (now (word .entry) ++ cyclesField x) r (now (out .exit)) ⌝ }
+{
+    let next = put_text(out, at, word);
     put_decimal(out, next, b" cycles=", x.cycles)
 }
 
 // The two addresses of an event.
-fn put_addresses(out: &mut [u8; ROOM], at: usize, x: Numbers) -> usize {
+fn put_addresses(out: &mut [u8; ROOM], at: usize, x: Numbers) -> usize
+    ensures { λ r. ⌜ Put (now (out .entry)) at (addressFields x) r (now (out .exit)) ⌝ }
+{
     let next = put_hexadecimal(out, at, b" source=", x.c);
     put_hexadecimal(out, next, b" target=", x.d)
 }
 
-fn put_branch_type(out: &mut [u8; ROOM], at: usize, kind: u64) -> usize {
+fn put_branch_type(out: &mut [u8; ROOM], at: usize, kind: u64) -> usize
+    ensures { λ r. ⌜ Put (now (out .entry)) at (branchTypeField kind) r (now (out .exit)) ⌝ }
+{
     match kind {
         0 => put_text(out, at, b" type=DIRECT"),
         1 => put_text(out, at, b" type=INDIRECT"),
@@ -66,64 +75,91 @@ fn put_branch_type(out: &mut [u8; ROOM], at: usize, kind: u64) -> usize {
     }
 }
 
+// A register of one of the groups, or its number where it is in none.
+fn put_group_register(out: &mut [u8; ROOM], at: usize, register: u64) -> usize
+    ensures { λ r. ⌜ Put (now (out .entry)) at (groupField register) r (now (out .exit)) ⌝ }
+{
+    match register / 32 {
+        1 => put_decimal(out, at, b" register=BRBINF", register % 32),
+        2 => put_decimal(out, at, b" register=BRBSRC", register % 32),
+        3 => put_decimal(out, at, b" register=BRBTGT", register % 32),
+        _ => put_decimal(out, at, b" register=", register),
+    }
+}
+
 // A register of document 01's list, or its number where it has no name.
-fn put_register(out: &mut [u8; ROOM], at: usize, register: u64) -> usize {
+fn put_register(out: &mut [u8; ROOM], at: usize, register: u64) -> usize
+    ensures { λ r. ⌜ Put (now (out .entry)) at (registerField register) r (now (out .exit)) ⌝ }
+{
     match register {
         0 => put_text(out, at, b" register=BRBIDR0_EL1"),
         1 => put_text(out, at, b" register=BRBCR_EL1"),
         2 => put_text(out, at, b" register=BRBCR_EL2"),
         3 => put_text(out, at, b" register=BRBFCR_EL1"),
-        32..=63 => put_decimal(out, at, b" register=BRBINF", register - 32),
-        64..=95 => put_decimal(out, at, b" register=BRBSRC", register - 64),
-        96..=127 => put_decimal(out, at, b" register=BRBTGT", register - 96),
-        _ => put_decimal(out, at, b" register=", register),
+        _ => put_group_register(out, at, register),
     }
 }
 
-fn put_reset(out: &mut [u8; ROOM], at: usize, x: Numbers) -> usize {
-    let cycles = put_cycles(out, at, b"reset", x);
+fn put_reset(out: &mut [u8; ROOM], at: usize, x: Numbers) -> usize
+    ensures { λ r. ⌜ Put (now (out .entry)) at (resetText x) r (now (out .exit)) ⌝ }
+{
+    let cycles = put_opening(out, at, b"reset", x);
     let size = put_decimal(out, cycles, b" size=", x.a);
     put_decimal(out, size, b" v1p1=", x.b)
 }
 
-fn put_branch(out: &mut [u8; ROOM], at: usize, x: Numbers) -> usize {
-    let cycles = put_cycles(out, at, b"branch", x);
+fn put_branch(out: &mut [u8; ROOM], at: usize, x: Numbers) -> usize
+    ensures { λ r. ⌜ Put (now (out .entry)) at (branchText x) r (now (out .exit)) ⌝ }
+{
+    let cycles = put_opening(out, at, b"branch", x);
     let kind = put_branch_type(out, cycles, x.a);
     let flag = put_decimal(out, kind, b" mispredicted=", x.b);
     put_addresses(out, flag, x)
 }
 
-fn put_exception(out: &mut [u8; ROOM], at: usize, x: Numbers) -> usize {
-    let cycles = put_cycles(out, at, b"exception", x);
+fn put_exception(out: &mut [u8; ROOM], at: usize, x: Numbers) -> usize
+    ensures { λ r. ⌜ Put (now (out .entry)) at (exceptionText x) r (now (out .exit)) ⌝ }
+{
+    let cycles = put_opening(out, at, b"exception", x);
     let kind = put_hexadecimal(out, cycles, b" type=", x.a);
     let level = put_decimal(out, kind, b" target_level=", x.b);
     put_addresses(out, level, x)
 }
 
-fn put_return(out: &mut [u8; ROOM], at: usize, x: Numbers) -> usize {
-    let cycles = put_cycles(out, at, b"return", x);
+fn put_return(out: &mut [u8; ROOM], at: usize, x: Numbers) -> usize
+    ensures { λ r. ⌜ Put (now (out .entry)) at (returnText x) r (now (out .exit)) ⌝ }
+{
+    let cycles = put_opening(out, at, b"return", x);
     let level = put_decimal(out, cycles, b" target_level=", x.a);
     let flag = put_decimal(out, level, b" mispredicted=", x.b);
     put_addresses(out, flag, x)
 }
 
-fn put_platform(out: &mut [u8; ROOM], at: usize, x: Numbers) -> usize {
-    let cycles = put_cycles(out, at, b"platform", x);
+fn put_platform(out: &mut [u8; ROOM], at: usize, x: Numbers) -> usize
+    ensures { λ r. ⌜ Put (now (out .entry)) at (platformText x) r (now (out .exit)) ⌝ }
+{
+    let cycles = put_opening(out, at, b"platform", x);
     put_hexadecimal(out, cycles, b" P=", x.a)
 }
 
-fn put_read(out: &mut [u8; ROOM], at: usize, x: Numbers) -> usize {
-    let cycles = put_cycles(out, at, b"read", x);
+fn put_read(out: &mut [u8; ROOM], at: usize, x: Numbers) -> usize
+    ensures { λ r. ⌜ Put (now (out .entry)) at (readText x) r (now (out .exit)) ⌝ }
+{
+    let cycles = put_opening(out, at, b"read", x);
     put_register(out, cycles, x.a)
 }
 
-fn put_write(out: &mut [u8; ROOM], at: usize, x: Numbers) -> usize {
-    let cycles = put_cycles(out, at, b"write", x);
+fn put_write(out: &mut [u8; ROOM], at: usize, x: Numbers) -> usize
+    ensures { λ r. ⌜ Put (now (out .entry)) at (writeText x) r (now (out .exit)) ⌝ }
+{
+    let cycles = put_opening(out, at, b"write", x);
     let register = put_register(out, cycles, x.a);
     put_hexadecimal(out, register, b" value=", x.b)
 }
 
-fn put_operation(out: &mut [u8; ROOM], at: usize, x: Numbers) -> usize {
+fn put_operation(out: &mut [u8; ROOM], at: usize, x: Numbers) -> usize
+    ensures { λ r. ⌜ Put (now (out .entry)) at (readableText x) r (now (out .exit)) ⌝ }
+{
     let code = x.code;
     match code {
         0 => put_reset(out, at, x),
@@ -133,12 +169,15 @@ fn put_operation(out: &mut [u8; ROOM], at: usize, x: Numbers) -> usize {
         4 => put_platform(out, at, x),
         5 => put_read(out, at, x),
         6 => put_write(out, at, x),
-        _ => put_cycles(out, at, b"iall", x),
+        _ => put_opening(out, at, b"iall", x),
     }
 }
 
 // The first fields of an operation, as `list --numbers` has them.
-fn put_fields(out: &mut [u8; ROOM], at: usize, x: Numbers, count: u64) -> usize {
+fn put_fields(out: &mut [u8; ROOM], at: usize, x: Numbers, count: u64) -> usize
+    requires { ⌜ count ≤ 4 ⌝ }
+    ensures { λ r. ⌜ Put (now (out .entry)) at (spaced (take count (x .a ∷ x .b ∷ x .c ∷ x .d ∷ []))) r (now (out .exit)) ⌝ }
+{
     if count == 0 {
         return at;
     }
@@ -151,22 +190,54 @@ fn put_fields(out: &mut [u8; ROOM], at: usize, x: Numbers, count: u64) -> usize 
         return b;
     }
     let c = put_decimal(out, b, b" ", x.c);
+    if count == 3 {
+        return c;
+    }
     put_decimal(out, c, b" ", x.d)
 }
 
-// The code, the cycles and the operation's own fields.
-fn put_numbers(out: &mut [u8; ROOM], at: usize, x: Numbers) -> usize {
+// The code, the cycles and the operation's own fields, and the line's end.
+fn put_numbers(out: &mut [u8; ROOM], at: usize, x: Numbers) -> usize
+    ensures { λ r. ⌜ Put (now (out .entry)) at (numbersLine x) r (now (out .exit)) ⌝ }
+{
     let code = put_decimal(out, at, b"", x.code);
     let cycles = put_decimal(out, code, b" ", x.cycles);
-    put_fields(out, cycles, x, field_count(x.code))
+    let fields = put_fields(out, cycles, x, field_count(x.code));
+    put_text(out, fields, b"\n")
 }
 
-// The line of an operation, its end included.
-pub fn put_line(out: &mut [u8; ROOM], at: usize, numbers: bool, x: Numbers) -> usize {
-    if numbers {
-        let end = put_numbers(out, at, x);
-        return put_text(out, end, b"\n");
-    }
+// The readable text, and the line's end.
+fn put_readable(out: &mut [u8; ROOM], at: usize, x: Numbers) -> usize
+    ensures { λ r. ⌜ Put (now (out .entry)) at (readableLine x) r (now (out .exit)) ⌝ }
+{
     let end = put_operation(out, at, x);
     put_text(out, end, b"\n")
+}
+
+// Whether the longest line has room at a place. The tests subtract, so that no sum wraps.
+fn has_room(out: &[u8], at: usize) -> bool
+    ensures { λ r. ⌜ r ≡ leb (at + 256) (length (now (out .entry))) ⌝ }
+{
+    if out.len() < LONGEST_LINE {
+        return false;
+    }
+    if out.len() - LONGEST_LINE < at {
+        return false;
+    }
+    true
+}
+
+// The line of an operation, its end included, and the place after it; where the longest line has no room, nothing is written
+// and the place stays.
+pub fn put_line(out: &mut [u8; ROOM], at: usize, numbers: bool, x: Numbers) -> usize
+    ensures { λ r. ⌜ r ≡ lineEnd (now (out .entry)) at numbers x ⌝ }
+    ensures { λ _. ⌜ now (out .exit) ≡ lineWritten (now (out .entry)) at numbers x ⌝ }
+{
+    if !has_room(out, at) {
+        return at;
+    }
+    if numbers {
+        return put_numbers(out, at, x);
+    }
+    put_readable(out, at, x)
 }

@@ -8,23 +8,27 @@ use borrow.Author.Tests.{lt-ltb, le-ltb, lt-leb, le-leb}
 use lib.ListN.{length, set, length-append, take-append-drop}
 use lib.Seq.{sets, set-comm, length-sets}
 use Rattle.bits.proofs.Cases.{below-or-not}
-use Rattle.text.specs.Text.{digit, digits, decimalCount, decimal}
+use Rattle.text.specs.Text.{digit, digits, digitCount, decimalCount, decimal, hexadecimal}
 
 pub length-digits : (base k n : ℕ) → length (digits base k n) ≡ k
 unfolding digits
 length-digits base zero n = refl
 length-digits base (suc k) n = simp length-append (omega (arith, length-digits base k (n / base)))
 
-pub count-bound : (k n : ℕ) → decimalCount k n ≤ k
-unfolding decimalCount
-count-bound zero n = omega arith
-count-bound (suc k) n =
-    ⊎-elim (λ (h : n < 10). rw (lt-ltb n 10 h) (omega arith)) (λ (h : 10 ≤ n). rw (le-ltb n 10 h) (omega (arith, count-bound k (n / 10))))
-    (below-or-not n 10)
+count-bound : (base k n : ℕ) → digitCount base k n ≤ k
+count-bound base zero n = omega arith
+count-bound base (suc k) n =
+    ⊎-elim (λ (h : n < base). rw (lt-ltb n base h) (omega arith))
+    (λ (h : base ≤ n). rw (le-ltb n base h) (omega (arith, count-bound base k (n / base))))
+    (below-or-not n base)
 
 pub length-decimal : (n : ℕ) → length (decimal n) ≤ 20
-unfolding decimal
-length-decimal n = rw (length-digits 10 (decimalCount 20 n) n) (count-bound 20 n)
+unfolding decimal decimalCount
+length-decimal n = rw (length-digits 10 (digitCount 10 20 n) n) (count-bound 10 20 n)
+
+pub length-hexadecimal : (n : ℕ) → length (hexadecimal n) ≤ 16
+unfolding hexadecimal
+length-hexadecimal n = rw (length-digits 16 (digitCount 16 16 n) n) (count-bound 16 16 n)
 
 -- The last of some stores may come first.
 pub sets-last : (xs l : List ℕ) (i d : ℕ) → sets l i (xs ++ (d ∷ [])) ≡ sets (set l (i + length xs) d) i xs

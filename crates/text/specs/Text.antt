@@ -20,11 +20,19 @@ unfoldable pub digits : ℕ → ℕ → ℕ → List ℕ
 digits base zero n = []
 digits base (suc count) n = digits base count (n / base) ++ (digit (n % base) ∷ [])
 
--- How many decimal digits n has, where it has at most so many. 0 has one.
+-- How many digits n has in a base, where it has at most so many. 0 has one.
+abbrev pub digitCount : ℕ → ℕ → ℕ → ℕ
+digitCount base zero n = 0
+digitCount base (suc most) n = cond (ltb n base) 1 (suc (digitCount base most (n / base)))
+
+-- How many of them are decimal.
 unfoldable pub decimalCount : ℕ → ℕ → ℕ
-decimalCount zero n = 0
-decimalCount (suc most) n = cond (ltb n 10) 1 (suc (decimalCount most (n / 10)))
+decimalCount most n = digitCount 10 most n
 
 -- A number below 2^64, which has 20 digits at most, in decimal.
 unfoldable pub decimal : ℕ → List ℕ
 decimal n = digits 10 (decimalCount 20 n) n
+
+-- The same in hexadecimal, where it has 16 digits at most, with no 0 in front that could be left out.
+unfoldable pub hexadecimal : ℕ → List ℕ
+hexadecimal n = digits 16 (digitCount 16 16 n) n

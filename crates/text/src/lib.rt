@@ -1,9 +1,9 @@
 // Texts and numbers written into lent bytes. Each function writes all or nothing, and answers the bytes written.
 ghost use mathlib.Core.Path.{_≡_};
-ghost use Prim.Native.Nat.{_+_, _≤_, _<_};
+ghost use Prim.Native.Nat.{ℕ, suc, _+_, _^_, _≤_, _<_};
 ghost use lib.ListN.{length};
 ghost use Rattle.number.specs.Number.{written, writtenIf, countIf};
-ghost use Rattle.text.specs.Text.{digit, digits, decimalCount, decimal};
+ghost use Rattle.text.specs.Text.{digit, digits, digitCount, decimal, hexadecimal};
 
 // A text at a place that has room for it.
 fn put(out: &mut [u8], at: usize, text: &[u8])
@@ -57,14 +57,15 @@ fn put_digits(out: &mut [u8], at: usize, base: u64, count: usize, n: u64)
     }
 }
 
-// How many decimal digits n has: at most 20.
-fn decimal_count(n: u64) -> usize
-    ensures { λ r. ⌜ r ≡ decimalCount 20 n ⌝ }
+// How many digits n has in a base: as many as are defined, however many are allowed, while so many are enough.
+fn digit_count(base: u64, n: u64) -> usize
+    requires { ⌜ 2 ≤ base ⌝ }
+    ensures { λ r. ⌜ ((most : ℕ) → n < base ^ suc most → r ≡ digitCount base (suc most) n) ⌝ }
 {
     let mut rest = n;
     let mut count = 1;
-    while 10 <= rest {
-        rest = rest / 10;
+    while base <= rest {
+        rest = rest / base;
         count += 1;
     }
     count
@@ -91,7 +92,7 @@ pub fn write_decimal(out: &mut [u8], at: usize, n: u64) -> usize
     ensures { λ r. ⌜ r ≡ countIf (now (out .entry)) at (decimal n) ⌝ }
     ensures { λ _. ⌜ now (out .exit) ≡ writtenIf (now (out .entry)) at (decimal n) ⌝ }
 {
-    write_digits(out, at, 10, decimal_count(n), n)
+    write_digits(out, at, 10, digit_count(10, n), n)
 }
 
 // The lowest `count` hexadecimal digits of n.
@@ -100,4 +101,12 @@ pub fn write_hexadecimal(out: &mut [u8], at: usize, count: usize, n: u64) -> usi
     ensures { λ _. ⌜ now (out .exit) ≡ writtenIf (now (out .entry)) at (digits 16 count n) ⌝ }
 {
     write_digits(out, at, 16, count, n)
+}
+
+// n in hexadecimal, with as many digits as it has.
+pub fn write_shortest_hexadecimal(out: &mut [u8], at: usize, n: u64) -> usize
+    ensures { λ r. ⌜ r ≡ countIf (now (out .entry)) at (hexadecimal n) ⌝ }
+    ensures { λ _. ⌜ now (out .exit) ≡ writtenIf (now (out .entry)) at (hexadecimal n) ⌝ }
+{
+    write_digits(out, at, 16, digit_count(16, n), n)
 }

@@ -1,4 +1,4 @@
--- A number of bytes that there are.
+-- The smaller of the two numbers, which counts bytes that there are.
 use mathlib.Core.Path.{sym}
 use native.Mathlib.Omega.{arith}
 use lib.ListN.{length}
@@ -11,5 +11,5 @@ pub within-spec : {M : Type 1} → statement M
 within-spec =
     tie.close
     (tie.spec
-    (λ c. let b = now (c .before .args .bytes) in (omega arith, sym (length-take-le (length b) b (omega arith))))
-    (λ c. let a = c .before .args in (omega arith, sym (length-take-le (a .n) (now (a .bytes)) (omega arith)))))
+    (λ c. let b = now (c .before .args .bytes) in (omega arith, (omega arith, sym (length-take-le (length b) b (omega arith)))))
+    (λ c. let a = c .before .args in (omega arith, (omega arith, sym (length-take-le (a .n) (now (a .bytes)) (omega arith))))))

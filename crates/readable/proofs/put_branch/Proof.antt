@@ -1,0 +1,17 @@
+-- The parts of a branch, one behind another.
+use Rattle.readable.proofs.Laws.{and-part}
+use borrow.Author.Needs.{needs}
+use Rattle.readable.proofs.put_branch.Statement.{statement}
+use Rattle.readable.proofs.put_branch.Tie as tie
+
+pub put-branch-spec : {M : Type 1} → statement M
+put-branch-spec =
+    tie.close
+    (tie.spec
+    (λ c. search needs)
+    (λ _ _. tt)
+    (λ _ _. tt)
+    (λ c. search needs)
+    (λ _ _. tt)
+    (λ _ _. tt)
+    (λ c. and-part (and-part (and-part (c .before .before .before .before .before .before .before .put-opening .ensures) (c .before .before .before .before .before .put-branch-type .ensures)) (c .before .before .put-decimal .ensures)) (c .put-addresses .ensures)))
