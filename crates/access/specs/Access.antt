@@ -18,12 +18,12 @@ use Rattle.room.specs.Room.{numbered}
 abbrev pub isRecordRegister : ℕ → Bool
 isRecordRegister r = leb 32 r && leb r 127
 
--- The registers: 0 BRBIDR0_EL1, 1 BRBCR_EL1, 2 BRBCR_EL2, 3 BRBFCR_EL1, and those of records.
+-- The registers that there are: those that `registerValue` names first, and those of records.
 abbrev pub isRegister : ℕ → Bool
 isRegister r = leb r 3 || isRecordRegister r
 
 -- The n-bit of P that an access to the register looks at: a record's, BRBIDR0_EL1's, or the control registers', which
--- reading and writing have apart.
+-- reading and writing have apart. (BRBCR_EL2 is undefined at EL1, where alone an n-bit counts.)
 unfoldable pub nBit : State → Bool → ℕ → Bool
 nBit s writing r =
     cond (isRecordRegister r) (nBRBDATA s) (cond (eqb r 0) (nBRBIDR s) (cond writing (nBRBCTLWrite s) (nBRBCTLRead s)))
@@ -79,7 +79,7 @@ shownNumber s list r =
 abbrev pub BRBIDR0 : State → ℕ
 BRBIDR0 s = put 15 12 5 + put 11 8 0 + put 7 0 (s .size)
 
--- What a performed read of a register shows.
+-- What a performed read of a register shows: 0 is BRBIDR0_EL1, 1 BRBCR_EL1, 2 BRBCR_EL2, 3 BRBFCR_EL1.
 unfoldable pub registerValue : State → List Record → ℕ → ℕ
 registerValue s list r =
     cond (eqb r 0) (BRBIDR0 s)

@@ -7,8 +7,8 @@ use Rattle.answer.specs.declared.Answer.the-variants.{Done, Value, Undef
 use Rattle.answer.specs.declared.Returned.{Returned}
 
 -- The number and the value of each answer. Refusals have the numbers of the table, 1 to 7; what is accepted has 0 where it
--- was done and, where an access was not performed, 100 (undefined), 102 (trapped to EL2) or 103 (trapped to EL3). Only what
--- was read or counted has a value: everything else has 0.
+-- was done and, where an access was not performed, 100 (undefined), 102 (trapped to EL2) or 103 (trapped to EL3). Only `Value`
+-- has a value: what a read shows, a decoded count, how many bytes were written, or where reading goes on.
 abbrev pub returned : Answer → Returned
 returned Done = record { number = 0; value = 0 }
 returned (Value v) = record { number = 0; value = v }

@@ -2,13 +2,13 @@
 ghost use mathlib.Core.Path.{_≡_};
 ghost use Rattle.answer.specs.Answer.{returned, isDone};
 
-// An answer. Steps, accesses, the bank view and the writer of recordings answer with it.
+// An answer. Steps, accesses, the bank view, decoding, and the reader and writer of recordings answer with it.
 pub enum Answer {
     // Done, with nothing to show.
     Done,
     // Done, and what it shows.
     Value(u64),
-    // Accesses that were accepted and not performed.
+    // The access is undefined: like the two below, accepted and not performed.
     Undefined,
     // Trapped to EL2.
     Trap2,

@@ -18,7 +18,8 @@ bankRefusal size bank m room =
     cond (not (oneOf sizes size) || ltb 3 bank || ltb 31 m) 4 (cond (ltb (length room) (needed size)) 6 0)
 
 -- The record that a view shows at m, where its bank's first record has this number: one of the bank's 32, and a zero record
--- past them and past the size.
+-- past them and past the size. (`bankShows` refuses an m past them before. A view itself can be asked for any m, refuses
+-- nothing, and must not show another bank.)
 unfoldable pub viewShows : ℕ → ℕ → ℕ → List ℕ → Record
 viewShows size first m room = cond (leb 32 m) zeroRecord (numbered (m + first) (records size room))
 

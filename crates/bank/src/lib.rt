@@ -1,5 +1,5 @@
-// The bank view (document 01, "Access outcomes", last paragraph; docs/MANUAL.md, "The bank view"). It holds a reference to the
-// lent records beside two numbers. What it shows is decided by `record_from`, on a plain slice; the functions that take,
+// The bank view (document 01, "Access outcomes", last paragraph; docs/MANUAL.md, "The bank view"). It
+// borrows the room beside two numbers. What it shows is decided by `record_from`, on a plain slice; the functions that take,
 // make or hold a view are thin, since their proofs are by hand.
 ghost use mathlib.Core.Path.{_≡_};
 ghost use mathlib.Core.Bool.{cond};

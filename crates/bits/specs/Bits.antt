@@ -26,7 +26,7 @@ put hi lo x = x % 2 ^ (hi - lo + 1) * 2 ^ lo
 abbrev pub within : ℕ → ℕ → Bool
 within mask x = eqb (bitAnd x mask) x
 
--- x stands in the list.
+-- x stands in the list. (The last element is tried first, which is all the same, and how the code tests.)
 abbrev pub oneOf : List ℕ → ℕ → Bool
 oneOf [] x = false
 oneOf (y ∷ ys) x = oneOf ys x || eqb x y

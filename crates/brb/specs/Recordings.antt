@@ -17,27 +17,27 @@ use Rattle.recording.specs.Operations.{storedNumbers}
 use Rattle.recording.specs.RecordedStep.{Recorded, stepOfReading}
 use Rattle.brb.specs.declared.BrbRecorded.{BrbRecorded}
 
--- What reading an operation answers, and what it leaves in the lent place.
+-- What reading an operation answers, and what it leaves in the lent numbers.
 pub record ReadInto : Type 0 where
   pub answer : Returned
-  pub place : List ℕ
+  pub lent : List ℕ
 
--- An answer and a place, together.
+-- An answer and lent numbers, together.
 abbrev pub readInto : Returned → List ℕ → ReadInto
-readInto answer place = record { answer = answer; place = place }
+readInto answer lent = record { answer = answer; lent = lent }
 
--- What was read, into the place: the operation's six numbers, and the position after it is answered; on a refusal the place is
--- as it was.
+-- What was read, into lent numbers: the operation's six, and the place after it is answered; on a refusal they are as they
+-- were.
 abbrev pub ofReading : List ℕ → Reading → ReadInto
-ofReading place (Reading.Operation x next) = readInto (returned (Value next)) (storedNumbers x place)
-ofReading place (Reading.Refused number at) = readInto (returned (Refused number)) place
+ofReading lent (Reading.Operation x next) = readInto (returned (Value next)) (storedNumbers x lent)
+ofReading lent (Reading.Refused number place) = readInto (returned (Refused number)) lent
 
--- Reading the operation at a position. A place for fewer than six numbers is 6, before anything is read (house).
+-- Reading the operation at a place. Fewer than six lent numbers are 6, before anything is read (house).
 unfoldable pub readResult : List ℕ → ℕ → List ℕ → ReadInto
-readResult bytes at place =
-    cond (ltb (length place) 6) (readInto (returned (Refused 6)) place) (ofReading place (operationAt bytes at))
+readResult bytes at lent =
+    cond (ltb (length lent) 6) (readInto (returned (Refused 6)) lent) (ofReading lent (operationAt bytes at))
 
--- An answer as its two numbers, and the position where reading goes on, or where the bad number starts.
+-- An answer as its two numbers, and the place where reading goes on, or where the bad number starts.
 abbrev pub returnedAt : Answer → ℕ → BrbRecorded
 returnedAt a next = record { number = returned a .number; value = returned a .value; next = next }
 
@@ -45,8 +45,9 @@ returnedAt a next = record { number = returned a .number; value = returned a .va
 abbrev pub ofRecorded : List ℕ → Recorded → Result BrbRecorded (List ℕ)
 ofRecorded words r = together (returnedAt (r .result .answer) (r .next)) (stored (r .result .state) words) (r .result .room)
 
--- The step of the operation at a position of a recording, on the sound state that lent numbers hold. Where they hold none, that
--- is the refusal, with nothing read and every number as it was.
+-- The step of the operation at a place of a recording, on the sound state that lent numbers hold. Where they hold none, that
+-- is the refusal, with nothing read and every number as it was. (It is the recorded step, but for a state that was judged when
+-- it was loaded.)
 unfoldable pub recordedResult : List ℕ → List ℕ → List ℕ → ℕ → Result BrbRecorded (List ℕ)
 recordedResult words room bytes at =
     ifSound (loaded words) (λ s. ofRecorded words (stepOfReading s room (operationAt bytes at)))

@@ -116,17 +116,17 @@ fn returned_at(answer: Answer, next: usize) -> BrbRecorded
     }
 }
 
-// The operation at a place of a recording, as six numbers in a lent place.
+// The operation at a place of a recording, as six lent numbers.
 #[no_mangle]
-pub extern "C" fn brb_recording_read(bytes: &[u8], at: usize, place: &mut [u64]) -> Returned
-    ensures { λ r. ⌜ readInto r (now (place .exit)) ≡ readResult (now (bytes .entry)) at (now (place .entry)) ⌝ }
+pub extern "C" fn brb_recording_read(bytes: &[u8], at: usize, lent: &mut [u64]) -> Returned
+    ensures { λ r. ⌜ readInto r (now (lent .exit)) ≡ readResult (now (bytes .entry)) at (now (lent .entry)) ⌝ }
 {
-    if place.len() < 6 {
+    if lent.len() < 6 {
         return Answer::Refused(6).returned();
     }
     match operation_at(bytes, at) {
         Reading::Operation(x, next) => {
-            store_numbers(place, x);
+            store_numbers(lent, x);
             Answer::Value(next as u64).returned()
         }
         Reading::Refused(number, _) => Answer::Refused(number).returned(),

@@ -9,7 +9,7 @@ use Rattle.running.specs.Ran.{ran}
 use Rattle.room.specs.declared.Effect.{Effect}
 use Rattle.room.specs.declared.Effect.the-variants.{Keep, Push, Clear, ResetTo}
 use Rattle.region.specs.Region.{prohibited}
-use Rattle.filter.specs.Filter.{chosen}
+use Rattle.filter.specs.Filter.{exceptionReturn, passesFilter}
 use Rattle.event.specs.declared.Event.{Event}
 use Rattle.event.specs.Event.{controlled, eventEffect}
 use Rattle.answer.specs.Answer.{isDone}
@@ -17,9 +17,10 @@ use Rattle.access.specs.Access.{iallOutcome}
 use Rattle.operation.specs.declared.Operation.{Operation}
 use Rattle.operation.specs.declared.Operation.the-variants.{Reset, Branch, Exception, Return, Platform, Read, Write, Iall, Unknown}
 
--- An operation on which the next count becomes unknown (R_MJDLC), by the state before it and the state that it has set: it
--- began at a prohibited level; it turned counting on; or it cleared PAUSED. (Only a write can do the last two: a reset turns
--- both off, and makes the next count unknown by itself.)
+-- An operation on which the next count becomes unknown, by the state before it and the state that it has set: it began at a
+-- prohibited level (house: R_MJDLC speaks of leaving one); it turned counting on; or it cleared PAUSED. R_MJDLC has BRB IALL
+-- too, which document 01 leaves out: docs/MANUAL.md, "Where the model and Arm differ". (Only a write can do the last two: a
+-- reset turns both off, and makes the next count unknown by itself.)
 unfoldable pub occasion : State → State → Bool
 occasion before after =
     prohibited before (before .level) || not (counting before) && counting after || PAUSED before && not (PAUSED after)
@@ -28,32 +29,34 @@ occasion before after =
 unfoldable pub passed : State → State → ℕ → Running
 passed before after cycles = ran (before .running) (occasion before after) cycles
 
--- An event of this type, flag and pair of addresses, from the current level to the one that it enters.
+-- An event of this type and this mispredicted flag, from the current level to the one that it enters, with its source and
+-- its target address.
 abbrev pub eventFrom : State → ℕ → ℕ → ℕ → ℕ → ℕ → Event
-eventFrom s kind m entered source target =
-    record { kind = kind; mispredicted = m; left = s .level; entered = entered; source = source; target = target }
+eventFrom s kind mispredicted entered source target =
+    record { kind = kind; mispredicted = mispredicted; left = s .level; entered = entered; source = source; target = target }
 
--- What an accepted operation does to the records, where the running count is r with the operation's cycles in it. A branch
+-- What an accepted operation does to the records, where the running count has the operation's cycles in it. A branch
 -- stays at its level and goes by the filter. An exception goes by bit 23 (EXCEPTION) of the level that it enters, a return,
--- which has type 7, by bit 22 (ERTN) of the level that it leaves. Only a performed BRB IALL and a reset clear the records.
+-- which has a type of its own, by bit 22 (ERTN) of the level that it leaves. Only a performed BRB IALL and a reset clear the
+-- records. (Refusal 2 keeps an unknown code away.)
 unfoldable pub effectOf : State → Operation → Running → Effect
-effectOf s (Reset size v1p1) r = ResetTo size
-effectOf s (Branch kind m source target) r =
-    eventEffect s r (chosen (s .brbfcr) (record { code = kind })) (eventFrom s kind m (s .level) source target)
-effectOf s (Exception kind level source target) r =
-    eventEffect s r (controlled 23 s level) (eventFrom s kind 0 level source target)
-effectOf s (Return level m source target) r =
-    eventEffect s r (controlled 22 s (s .level)) (eventFrom s 7 m level source target)
-effectOf s (Platform p) r = Keep
-effectOf s (Read register) r = Keep
-effectOf s (Write register value) r = Keep
-effectOf s Iall r = cond (isDone (iallOutcome s)) Clear Keep
-effectOf s Unknown r = Keep
+effectOf s (Reset size v1p1) running = ResetTo size
+effectOf s (Branch kind mispredicted source target) running =
+    eventEffect s running (passesFilter (s .brbfcr) (record { code = kind })) (eventFrom s kind mispredicted (s .level) source target)
+effectOf s (Exception kind level source target) running =
+    eventEffect s running (controlled s 23 level) (eventFrom s kind 0 level source target)
+effectOf s (Return level mispredicted source target) running =
+    eventEffect s running (controlled s 22 (s .level)) (eventFrom s exceptionReturn mispredicted level source target)
+effectOf s (Platform p) running = Keep
+effectOf s (Read register) running = Keep
+effectOf s (Write register value) running = Keep
+effectOf s Iall running = cond (isDone (iallOutcome s)) Clear Keep
+effectOf s Unknown running = Keep
 
 -- The running count after the effect: a record takes it, and it runs anew from 0, known again; BRB IALL lets it run on; a
--- reset drops it, its own cycles too. (R_KVRBB: a count is of the cycles since the record before.)
+-- reset drops it, its own cycles too, as `afterReset` has it. (R_KVRBB: a count is of the cycles since the record before.)
 abbrev pub runningAfter : Effect → Running → Running
-runningAfter Keep r = r
-runningAfter (Push new) r = record { count = 0; unknown = 0 }
-runningAfter Clear r = r
-runningAfter (ResetTo size) r = runningAfterReset
+runningAfter Keep running = running
+runningAfter (Push new) running = record { count = 0; unknown = 0 }
+runningAfter Clear running = running
+runningAfter (ResetTo size) running = runningAfterReset

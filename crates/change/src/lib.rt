@@ -5,7 +5,7 @@ ghost use mathlib.Core.Bool.{false, cond};
 ghost use Rattle.answer.specs.Answer.{isDone};
 ghost use Rattle.access.specs.Access.{writeOutcome, iallOutcome, meant, registerWritten};
 ghost use Rattle.event.specs.Event.{controlled, recordOf, becomesRecord};
-ghost use Rattle.filter.specs.Filter.{chosen};
+ghost use Rattle.filter.specs.Filter.{exceptionReturn, passesFilter};
 ghost use Rattle.operation.specs.Changed.{changed};
 ghost use Rattle.change.specs.Change.{occasion, passed, eventFrom, effectOf, runningAfter};
 use access::iall_outcome;
@@ -122,17 +122,17 @@ fn no_event(s: State, effect: Effect) -> Asked
 
 // A branch stays at its level, and the filter says whether it is wanted.
 fn branch_asked(s: State, kind: u64, mispredicted: u64, source: u64, target: u64) -> Asked
-    ensures { λ x. ⌜ x ≡ record { wanted = chosen (s .brbfcr) (record { code = kind }); event = eventFrom s kind mispredicted (s .level) source target; otherwise = Effect.Keep } ⌝ }
+    ensures { λ x. ⌜ x ≡ record { wanted = passesFilter (s .brbfcr) (record { code = kind }); event = eventFrom s kind mispredicted (s .level) source target; otherwise = Effect.Keep } ⌝ }
 {
     let t = BranchType { code: kind };
-    let wanted = t.chosen(s.brbfcr);
+    let wanted = t.passes_filter(s.brbfcr);
     let event = event_from(s, kind, mispredicted, s.level, source, target);
     ask(wanted, event, Effect::Keep)
 }
 
 // An exception is controlled by the level that it enters.
 fn exception_asked(s: State, kind: u64, level: u64, source: u64, target: u64) -> Asked
-    ensures { λ x. ⌜ x ≡ record { wanted = controlled 23 s level; event = eventFrom s kind 0 level source target; otherwise = Effect.Keep } ⌝ }
+    ensures { λ x. ⌜ x ≡ record { wanted = controlled s 23 level; event = eventFrom s kind 0 level source target; otherwise = Effect.Keep } ⌝ }
 {
     let wanted = exception_controlled(s, level);
     ask(
@@ -144,7 +144,7 @@ fn exception_asked(s: State, kind: u64, level: u64, source: u64, target: u64) ->
 
 // A return is controlled by the level that it leaves.
 fn return_asked(s: State, level: u64, mispredicted: u64, source: u64, target: u64) -> Asked
-    ensures { λ x. ⌜ x ≡ record { wanted = controlled 22 s (s .level); event = eventFrom s 7 mispredicted level source target; otherwise = Effect.Keep } ⌝ }
+    ensures { λ x. ⌜ x ≡ record { wanted = controlled s 22 (s .level); event = eventFrom s exceptionReturn mispredicted level source target; otherwise = Effect.Keep } ⌝ }
 {
     let wanted = return_controlled(s);
     ask(

@@ -15,13 +15,13 @@ largestCount = 1048575
 abbrev pub exceeded : ℕ
 exceeded = 0x3FFF
 
--- How many binary digits n has, where it has at most k: k where its digit of weight 2^(k-1) is there, else those of at most
--- k-1. 0 has none.
+-- How many binary digits n has, where it has at most so many: k + 1 where its digit of weight 2^k is there, else those of at
+-- most k. 0 has none.
 unfoldable pub bitLength : ℕ → ℕ → ℕ
 bitLength zero n = 0
 bitLength (suc k) n = cond (leb (2 ^ k) n) (suc k) (bitLength k n)
 
--- E: 0 for a count below 256, which needs no rounding; for a larger one the number of its digits past the first eight.
+-- E: 0 for a count below 256, which M holds whole; for a larger one the number of its binary digits past the first eight.
 unfoldable pub exponent : ℕ → ℕ
 exponent n = cond (ltb n 256) 0 (bitLength 64 n - 8)
 
@@ -42,7 +42,7 @@ countOf e m = cond (eqb e 0) m ((256 + m) * 2 ^ (e - 1))
 unfoldable pub decoded : ℕ → Decoded
 decoded cc = cond (eqb cc exceeded) Exceeded (cond (leb (cc / 256) 12) (Known (countOf (cc / 256) (cc % 256))) Refused)
 
--- The answer of decoding: the count; 1,048,576, which no known count is, where it exceeded the counter; or refusal 4.
+-- The answer of decoding: the count; 1,048,576, which no known count is, where it exceeded the counter (house); or refusal 4.
 abbrev pub decodedAnswer : Decoded → Answer
 decodedAnswer (Known n) = Answer.Value n
 decodedAnswer Exceeded = Answer.Value 1048576

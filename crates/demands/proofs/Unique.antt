@@ -46,4 +46,4 @@ recorded-outcome p q =
 -- ... and of `brb_recording_read`.
 pub read-outcome : {a b : Returned × List ℕ} {z : ReadInto} → readInto (a .0) (a .1) ≡ z → readInto (b .0) (b .1) ≡ z → a ≡ b
 read-outcome p q =
-    one-outcome-of (λ (x : Returned × List ℕ). readInto (x .0) (x .1)) (λ r. (r .answer, r .place)) (λ x. refl) p q
+    one-outcome-of (λ (x : Returned × List ℕ). readInto (x .0) (x .1)) (λ r. (r .answer, r .lent)) (λ x. refl) p q

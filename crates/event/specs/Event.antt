@@ -1,5 +1,6 @@
 -- What becomes of an event, which is a taken branch, an exception or an exception return: document 01, "Which events become
--- records", and of "Cycles" what a record takes; docs/MANUAL.md, "Exceptions and returns", "Records" and "Cycles".
+-- records", and of "Cycles" what a record takes; docs/MANUAL.md, "Exceptions and returns", "Records" and "Cycles". s is the
+-- state before the event, by which all of it is judged.
 use Prim.Native.Nat.{ℕ, _+_}
 use mathlib.Core.Bool.{Bool, cond, _&&_, _||_, not}
 use lib.Dec.{eqb}
@@ -7,7 +8,7 @@ use Rattle.bits.specs.Bits.{isSet, put}
 use Rattle.count.specs.Count.{encoded}
 use Rattle.state.specs.declared.State.{State}
 use Rattle.state.specs.declared.Running.{Running}
-use Rattle.state.specs.Named.{EL3Recorded, counting, predictionShown, PAUSED}
+use Rattle.state.specs.Named.{EL3RecordingEnabled, counting, predictionShown, PAUSED}
 use Rattle.region.specs.Region.{prohibited}
 use Rattle.room.specs.declared.Record.{Record}
 use Rattle.room.specs.declared.Effect.{Effect}
@@ -17,19 +18,19 @@ use Rattle.event.specs.declared.Event.{Event}
 -- The control of exceptions and returns at a level: bit k of that level's register, BRBCR_EL2 or BRBCR_EL1; at EL3, which has
 -- none, whether EL3 is recorded. The level is the one that an exception enters (R_KRJQC) or a return leaves (R_ZSHDL), and so
 -- never 0.
-unfoldable pub controlled : ℕ → State → ℕ → Bool
-controlled k s level = cond (eqb level 3) (EL3Recorded s) (cond (eqb level 2) (isSet k (s .brbcr2)) (isSet k (s .brbcr1)))
+unfoldable pub controlled : State → ℕ → ℕ → Bool
+controlled s k level = cond (eqb level 3) (EL3RecordingEnabled s) (cond (eqb level 2) (isSet k (s .brbcr2)) (isSet k (s .brbcr1)))
 
--- VALID, by the sides of the event that are prohibited: source and target 0, no record; the source alone 1, half-target
--- (R_LPLYK); the target alone 2, half-source (R_RPVXK); neither 3, full (R_GSMRH, R_MLGCF). For exceptions R_YSKQK and
--- R_YBJDJ, for returns R_LMXHS and R_ZTGMW; a branch has one level for both sides.
+-- VALID, by the sides of the event that are prohibited. Both: 0, no record. The source alone: 1, half-target (R_LPLYK). The
+-- target alone: 2, half-source (R_RPVXK). Neither: 3, full (R_GSMRH, R_MLGCF). For exceptions R_YSKQK and R_YBJDJ, for returns
+-- R_LMXHS and R_ZTGMW; a branch has one level for both sides.
 unfoldable pub valid : State → Event → ℕ
 valid s e = cond (prohibited s (e .left)) (cond (prohibited s (e .entered)) 0 1) (cond (prohibited s (e .entered)) 2 3)
 
 -- The record's count is unknown: by the flag of the running count, which the occasions set, or because counting is off.
 -- R_MJDLC.
 unfoldable pub countUnknown : State → Running → Bool
-countUnknown s r = eqb (r .unknown) 1 || not (counting s)
+countUnknown s running = eqb (running .unknown) 1 || not (counting s)
 
 -- MPRED: the event's mispredicted flag where it is shown (R_XHWRB) and the source side is not prohibited, since a half-target
 -- record says nothing of its source. An exception's flag is 0 (R_DHNPJ).
@@ -42,20 +43,20 @@ abbrev pub packed : ℕ → ℕ → ℕ → ℕ → ℕ → ℕ → ℕ
 packed ccu cc kind level mpred valid =
     put 46 46 ccu + put 45 32 cc + put 13 8 kind + put 7 6 level + put 5 5 mpred + put 1 0 valid
 
--- BRBINF of an event, where the running count is r with the event's own cycles in it. An unknown count is CCU 1 and CC 0
+-- BRBINF of an event, where the running count has the event's own cycles in it. An unknown count is CCU 1 and CC 0
 -- (R_PBJTJ); a known one is encoded, all ones where it exceeded the counter (R_XGSSZ, R_JZWPG). A half-source record has
 -- level 0.
 unfoldable pub BRBINF : State → Running → Event → ℕ
-BRBINF s r e =
-    packed (cond (countUnknown s r) 1 0) (cond (countUnknown s r) 0 (encoded (r .count))) (e .kind)
+BRBINF s running e =
+    packed (cond (countUnknown s running) 1 0) (cond (countUnknown s running) 0 (encoded (running .count))) (e .kind)
     (cond (prohibited s (e .entered)) 0 (e .entered))
     (MPRED s e)
     (valid s e)
 
 -- The record of an event: an address of a prohibited side is not captured, and 0 stands for it. R_YGGSC.
 unfoldable pub recordOf : State → Running → Event → Record
-recordOf s r e =
-    record { inf = BRBINF s r e; source = cond (prohibited s (e .left)) 0 (e .source); target = cond (prohibited s (e .entered)) 0 (e .target) }
+recordOf s running e =
+    record { inf = BRBINF s running e; source = cond (prohibited s (e .left)) 0 (e .source); target = cond (prohibited s (e .entered)) 0 (e .target) }
 
 -- The event becomes a record: it is wanted, which is what the filter says of a branch and the control of an exception or a
 -- return; recording is not paused; and one of its sides is not prohibited.
@@ -64,4 +65,4 @@ becomesRecord s wanted e = wanted && not (PAUSED s) && not (eqb (valid s e) 0)
 
 -- What an event does to the records: its own becomes the newest, or nothing.
 abbrev pub eventEffect : State → Running → Bool → Event → Effect
-eventEffect s r wanted e = cond (becomesRecord s wanted e) (Push (recordOf s r e)) Keep
+eventEffect s running wanted e = cond (becomesRecord s wanted e) (Push (recordOf s running e)) Keep

@@ -3,7 +3,7 @@
 ghost use mathlib.Core.Path.{_≡_};
 ghost use mathlib.Core.Bool.{cond};
 ghost use lib.Dec.{eqb};
-ghost use Rattle.state.specs.Named.{EL3Recorded};
+ghost use Rattle.state.specs.Named.{EL3RecordingEnabled};
 ghost use Rattle.event.specs.Event.{controlled, valid, countUnknown, MPRED, packed, BRBINF, recordOf, becomesRecord};
 use bits::pick;
 use bits::pick_bool;
@@ -45,16 +45,16 @@ pub struct Event {
 
 // The control at a level, where `in1` and `in2` are its bits in BRBCR_EL1 and BRBCR_EL2.
 fn by_level(s: State, level: u64, in1: bool, in2: bool) -> bool
-    ensures { λ x. ⌜ x ≡ cond (eqb level 3) (EL3Recorded s) (cond (eqb level 2) in2 in1) ⌝ }
+    ensures { λ x. ⌜ x ≡ cond (eqb level 3) (EL3RecordingEnabled s) (cond (eqb level 2) in2 in1) ⌝ }
 {
-    let el3 = s.el3_recorded();
+    let el3 = s.el3_recording_enabled();
     let below3 = pick_bool(level == 2, in2, in1);
     pick_bool(level == 3, el3, below3)
 }
 
 // An exception to this level is recorded: the level that it enters controls it.
 pub fn exception_controlled(s: State, level: u64) -> bool
-    ensures { λ x. ⌜ x ≡ controlled 23 s level ⌝ }
+    ensures { λ x. ⌜ x ≡ controlled s 23 level ⌝ }
 {
     by_level(
         s,
@@ -66,7 +66,7 @@ pub fn exception_controlled(s: State, level: u64) -> bool
 
 // An exception return is recorded: the level that it leaves controls it.
 pub fn return_controlled(s: State) -> bool
-    ensures { λ x. ⌜ x ≡ controlled 22 s (s .level) ⌝ }
+    ensures { λ x. ⌜ x ≡ controlled s 22 (s .level) ⌝ }
 {
     by_level(
         s,

@@ -7,7 +7,7 @@ use native.Mathlib.Omega.{arith}
 use lib.Dec.{eqb}
 use Rattle.bits.specs.Bits.{bit, isSet}
 use Rattle.filter.specs.declared.BranchType.{BranchType}
-use Rattle.filter.specs.Filter.{filterBit, chosen}
+use Rattle.filter.specs.Filter.{filterBit, passesFilter}
 
 bits-differ : (x y : ℕ) → x < 2 → y < 2 → not (eqb x y) ≡ (eqb x 1 && not (eqb y 1) || not (eqb x 1) && eqb y 1)
 bits-differ zero zero hx hy = refl
@@ -22,6 +22,6 @@ bit-below : (k x : ℕ) → bit k x < 2
 bit-below k x = omega arith
 
 pub as-arm-says : (brbfcr : ℕ) (t : BranchType)
-    → chosen brbfcr t ≡ (isSet (filterBit t) brbfcr && not (isSet 16 brbfcr) || not (isSet (filterBit t) brbfcr) && isSet 16 brbfcr)
-unfolding chosen
+    → passesFilter brbfcr t ≡ (isSet (filterBit t) brbfcr && not (isSet 16 brbfcr) || not (isSet (filterBit t) brbfcr) && isSet 16 brbfcr)
+unfolding passesFilter
 as-arm-says brbfcr t = bits-differ _ _ (bit-below (filterBit t) brbfcr) (bit-below 16 brbfcr)

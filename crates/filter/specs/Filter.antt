@@ -31,6 +31,10 @@ RTN = 5
 abbrev pub CONDDIR : ℕ
 CONDDIR = 8
 
+-- An exception return: a type that no filter bit belongs to.
+abbrev pub exceptionReturn : ℕ
+exceptionReturn = 7
+
 -- The six branch types.
 abbrev pub branchTypes : List ℕ
 branchTypes = DIRECT ∷ INDIRECT ∷ DIRCALL ∷ INDCALL ∷ RTN ∷ CONDDIR ∷ []
@@ -55,5 +59,5 @@ EnI brbfcr = bit 16 brbfcr
 
 -- The filter lets a branch of this type through: its filter bit differs from EnI. So a word with EnI alone lets all six
 -- through (S_XZRTW), and the word 0 none.
-unfoldable pub chosen : ℕ → BranchType → Bool
-chosen brbfcr t = not (eqb (bit (filterBit t) brbfcr) (EnI brbfcr))
+unfoldable pub passesFilter : ℕ → BranchType → Bool
+passesFilter brbfcr t = not (eqb (bit (filterBit t) brbfcr) (EnI brbfcr))

@@ -3,7 +3,7 @@
 ghost use mathlib.Core.Path.{_≡_};
 ghost use Prim.Native.Nat.{_≤_};
 ghost use Rattle.bits.specs.Bits.{oneOf};
-ghost use Rattle.filter.specs.Filter.{branchTypes, exceptionTypes, filterBit, chosen};
+ghost use Rattle.filter.specs.Filter.{branchTypes, exceptionTypes, filterBit, passesFilter};
 
 // EnI of BRBFCR_EL1, as the power of two that it weighs.
 const ENI: u64 = 0x1_0000;
@@ -54,9 +54,9 @@ impl BranchType {
         }
     }
 
-    // A branch of this type is recorded exactly when its filter bit differs from EnI.
-    pub fn chosen(self, brbfcr: u64) -> bool
-        ensures { λ r. ⌜ r ≡ chosen brbfcr self ⌝ }
+    // The filter lets a branch of this type through.
+    pub fn passes_filter(self, brbfcr: u64) -> bool
+        ensures { λ r. ⌜ r ≡ passesFilter brbfcr self ⌝ }
     {
         let own = (brbfcr >> self.filter_bit()) % 2;
         own != brbfcr / ENI % 2

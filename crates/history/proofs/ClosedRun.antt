@@ -7,7 +7,7 @@ use lib.ListN.{length, replicate}
 use Rattle.state.specs.Named.{fresh}
 use Rattle.room.specs.declared.Record.{Record}
 use Rattle.operation.specs.Operation.{operationOf}
-use Rattle.filter.specs.Filter.{filterBit, chosen}
+use Rattle.filter.specs.Filter.{filterBit, passesFilter}
 use Rattle.count.specs.Count.{bitLength, exponent, mantissa, encoded, countOf, decoded}
 use Rattle.state.specs.Sound.{unavailable, sound}
 use Rattle.room.specs.Room.{records, numbered, pushed, cleared, roomAfter}
@@ -57,7 +57,7 @@ pub closed-run : (_≡_ {A = Bool × Bool × ℕ × ℕ × ℕ} (stretch seen 0 
     (true, false, 812, 813, 813))
     × (noReset after ≡ true) × justMade (history start before) × justMade (history start session)
     × (length (notesOf start session) ≡ 2 + length (notesOf start before))
-unfolding bitLength exponent mantissa encoded countOf decoded unavailable sound records numbered pushed cleared roomAfter enabled prohibited filterBit chosen controlled valid countUnknown MPRED BRBINF recordOf becomesRecord nBit trapped2 outcome readOutcome writeOutcome iallOutcome registerWritten operationOf unknownCode notReset outsideList wrongLevel roomTooShort refusalOf changed occasion passed effectOf answerOf accepted stepOf stepped run notedStep notedRun stretch S acceptedCycles noReset
+unfolding bitLength exponent mantissa encoded countOf decoded unavailable sound records numbered pushed cleared roomAfter enabled prohibited filterBit passesFilter controlled valid countUnknown MPRED BRBINF recordOf becomesRecord nBit trapped2 outcome readOutcome writeOutcome iallOutcome registerWritten operationOf unknownCode notReset outsideList wrongLevel roomTooShort refusalOf changed occasion passed effectOf answerOf accepted stepOf stepped run notedStep notedRun stretch S acceptedCycles noReset
 closed-run = (refl, refl, refl, refl, refl)
 
 closed-time : T (notesOf start session) 0 2 ≡ acceptedCycles (run start before) after

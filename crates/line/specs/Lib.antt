@@ -1,3 +1,3 @@
 pub mod Line
 pub mod Turn
-pub mod Stream
+pub mod Pieces

@@ -23,7 +23,8 @@ lineOf Trap2 = bytesOfText "trap2\n"
 lineOf Trap3 = bytesOfText "trap3\n"
 lineOf (Refused n) = bytesOfText "refused " ++ decimal n ++ bytesOfText "\n"
 
--- Lent bytes with an answer's line at a place. A line has at most 32 bytes; where so many have no room, nothing is written.
+-- Lent bytes with an answer's line at a place. A line has at most 29 bytes; where 32 have no room, nothing is written (house:
+-- the program makes room before).
 unfoldable pub lineWritten : List ℕ → ℕ → Answer → List ℕ
 lineWritten out at answer = cond (leb (at + 32) (length out)) (written out at (lineOf answer)) out
 
@@ -40,7 +41,7 @@ replayFrom (suc most) s room bytes at =
     let rest = replayFrom most (r .result .state) (r .result .room) bytes (r .next) in
     cond (leb (length bytes) at) [] (lineOf (r .result .answer) ++ cond (stopsReading (r .result .answer)) [] rest)
 
--- What the replay of a recording prints: it starts from a fresh state, with a room for 64 records. Each operation has a byte at
--- least, so that there are at most as many as the recording has bytes.
+-- What the replay of a recording prints, from a fresh state on and with the largest room, three numbers for each of 64 records.
+-- Each operation has a byte at least, so that there are at most as many as the recording has bytes.
 unfoldable pub replayOf : List ℕ → List ℕ
 replayOf bytes = replayFrom (length bytes) fresh (replicate 192 0) bytes 0

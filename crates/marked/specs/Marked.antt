@@ -1,5 +1,4 @@
--- The marked cases P1 to P12 of document 01, "Marked cases": one table, and one fact about it, which the checker computes from
--- the definitions.
+-- The marked cases P1 to P12 of document 01, "Marked cases", as a table that the checker computes from the definitions.
 use Prim.Native.Nat.{ℕ}
 use mathlib.Core.Path.{_≡_, refl}
 use mathlib.Core.Bool.{cond}
@@ -7,7 +6,7 @@ use mathlib.Core.List.{List, [], _∷_, map}
 use Rattle.count.specs.declared.Decoded.{Decoded}
 use Rattle.count.specs.declared.Decoded.the-variants.{Known}
 use Rattle.recording.specs.declared.Numbers.{Numbers}
-use Rattle.filter.specs.Filter.{branchTypes, filterBit, chosen}
+use Rattle.filter.specs.Filter.{branchTypes, filterBit, passesFilter}
 use Rattle.text.specs.Text.{bytesOfText, digits, decimalCount, decimal}
 use Rattle.count.specs.Count.{bitLength, exponent, mantissa, encoded, countOf, decoded}
 use Rattle.number.specs.Number.{numberIn, numberAt, bytesIn, bytesOf}
@@ -35,19 +34,19 @@ pub data Case : Type 0 where
   Decodes : ℕ → Decoded → Case
   -- a filter word, and the branch types that it records
   Records : ℕ → List ℕ → Case
-  -- a session's operations, and what its replay prints, line by line
+  -- a session's operations, and all that its replay prints
   Prints : List Numbers → List ℕ → Case
 
 -- The types of a list that a filter word lets through.
-abbrev pub chosenOf : ℕ → List ℕ → List ℕ
-chosenOf word [] = []
-chosenOf word (t ∷ types) = cond (chosen word (record { code = t })) (t ∷ chosenOf word types) (chosenOf word types)
+abbrev pub passing : ℕ → List ℕ → List ℕ
+passing word [] = []
+passing word (t ∷ types) = cond (passesFilter word (record { code = t })) (t ∷ passing word types) (passing word types)
 
 -- The case with what the definitions make of its input. A session is written, read back, stepped and printed.
 abbrev pub computed : Case → Case
 computed (Encodes n cc) = Encodes n (encoded n)
 computed (Decodes cc n) = Decodes cc (decoded cc)
-computed (Records word types) = Records word (chosenOf word branchTypes)
+computed (Records word types) = Records word (passing word branchTypes)
 computed (Prints session text) = Prints session (replayOf (recordingBytes session))
 
 -- Session S1, operation by operation.
@@ -86,5 +85,5 @@ cases =
 
 -- The fact: what the definitions make of each input is what must come out.
 pub marked : map computed cases ≡ cases
-unfolding bitLength exponent mantissa encoded countOf decoded numberIn numberAt bytesIn bytesOf unavailable sound judged records numbered pushed cleared roomAfter enabled prohibited filterBit chosen controlled valid countUnknown MPRED BRBINF recordOf becomesRecord nBit trapped2 outcome readOutcome writeOutcome iallOutcome shownRecord shownNumber registerValue registerWritten operationOf unknownCode notReset outsideList wrongLevel roomTooShort refusalOf changed occasion passed effectOf answerOf accepted stepOf fieldCount numbersAt operationAt bytesOfAll operationBytes recordingBytes recordedStep digits decimalCount decimal lineOf replayFrom replayOf
+unfolding bitLength exponent mantissa encoded countOf decoded numberIn numberAt bytesIn bytesOf unavailable sound judged records numbered pushed cleared roomAfter enabled prohibited filterBit passesFilter controlled valid countUnknown MPRED BRBINF recordOf becomesRecord nBit trapped2 outcome readOutcome writeOutcome iallOutcome shownRecord shownNumber registerValue registerWritten operationOf unknownCode notReset outsideList wrongLevel roomTooShort refusalOf changed occasion passed effectOf answerOf accepted stepOf fieldCount numbersAt operationAt bytesOfAll operationBytes recordingBytes recordedStep digits decimalCount decimal lineOf replayFrom replayOf
 marked = refl

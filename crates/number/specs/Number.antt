@@ -1,6 +1,6 @@
 -- One number of a recording: its digits in base 128, lowest first, a byte each, with the byte's top bit saying that another
--- follows. Only the shortest form counts, of a number below 2^64, which has ten digits at most. 300 is AC 02; 80 00 would be
--- 0 with a digit too many. Document 01, "Recordings"; docs/MANUAL.md, "Recordings".
+-- follows. Only the shortest form counts, of a number below 2^64, which has ten digits at most. So AC 02 is 44 + 2 × 128, and
+-- 80 00, a 0 with a digit too many, is no number. Document 01, "Recordings"; docs/MANUAL.md, "Recordings".
 use Prim.Native.Nat.{ℕ, zero, suc, _+_, _*_, _-_, _^_, _/_, _%_}
 use mathlib.Core.Bool.{cond, _||_}
 use mathlib.Core.List.{List, [], _∷_, _++_}
@@ -17,7 +17,7 @@ continued b Malformed = Malformed
 continued b Ended = Ended
 
 -- The number in front of the list, whose first byte stands at the given place, where so many bytes are still allowed to it.
--- It is malformed where none is and another was to follow.
+-- Where a further byte is needed and none is allowed any more, it is malformed.
 unfoldable pub numberIn : ℕ → List ℕ → ℕ → Found
 numberIn zero bytes at = Malformed
 numberIn (suc allowed) [] at = Ended
@@ -27,12 +27,12 @@ numberIn (suc allowed) (b ∷ bytes) at = cond (ltb b 128) (Value b (at + 1)) (c
 unfoldable pub numberAt : List ℕ → ℕ → Found
 numberAt bytes at = numberIn 10 (drop at bytes) at
 
--- The number that is answered for what was found: refusal 1 for a malformed number, and for one that the end of the input
--- cuts off, which is told apart for whoever can bring more input.
-abbrev pub foundNumber : Found → ℕ
-foundNumber (Value n next) = 0
-foundNumber Malformed = 1
-foundNumber Ended = 1
+-- The refusal's number, 0 where a number was found: 1 for a malformed one, and for one that the end of the input cuts off,
+-- which is told apart for whoever can bring more input.
+abbrev pub foundRefusal : Found → ℕ
+foundRefusal (Value n next) = 0
+foundRefusal Malformed = 1
+foundRefusal Ended = 1
 
 -- The bytes of n, where it has at most so many digits in base 128.
 unfoldable pub bytesIn : ℕ → ℕ → List ℕ
@@ -47,7 +47,8 @@ bytesOf n = bytesIn 10 n
 abbrev pub written : List ℕ → ℕ → List ℕ → List ℕ
 written out at bytes = take at out ++ (bytes ++ drop (at + length bytes) out)
 
--- Lent bytes after a writer that writes all of the bytes at a place, or none where they have no room there.
+-- Lent bytes after a writer that writes all of the bytes at a place, or none where they have no room there. (House: every
+-- writer of the library does so.)
 unfoldable pub writtenIf : List ℕ → ℕ → List ℕ → List ℕ
 writtenIf out at bytes = cond (leb (at + length bytes) (length out)) (written out at bytes) out
 

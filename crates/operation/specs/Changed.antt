@@ -12,9 +12,9 @@ use Rattle.operation.specs.declared.Operation.the-variants.{Reset, Branc
 -- away.
 unfoldable pub changed : State → Operation → State
 changed s (Reset size v1p1) = afterReset size v1p1
-changed s (Branch kind m source target) = s
+changed s (Branch kind mispredicted source target) = s
 changed s (Exception kind level source target) = atLevel level s
-changed s (Return level m source target) = atLevel level s
+changed s (Return level mispredicted source target) = atLevel level s
 changed s (Platform p) = withPlatform p s
 changed s (Read r) = s
 changed s (Write r value) = cond (isDone (writeOutcome s r)) (registerWritten s (meant s r) value) s

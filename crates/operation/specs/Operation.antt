@@ -9,7 +9,7 @@ use Rattle.operation.specs.declared.Operation.the-variants.{Reset, Branc
 abbrev pub lastCode : ℕ
 lastCode = 7
 
--- The operation of a code and four numbers, which are its fields in order. Those beyond its own fields are not looked at.
+-- The operation of a code and four numbers, of which it takes its own fields, in order, and no more.
 unfoldable pub operationOf : ℕ → ℕ → ℕ → ℕ → ℕ → Operation
 operationOf code a b c d =
     cond (eqb code 0) (Reset a b)
@@ -21,12 +21,13 @@ operationOf code a b c d =
     (cond (eqb code 6) (Write a b)
     (cond (eqb code 7) Iall Unknown)))))))
 
--- The code of an operation. One of an unknown code counts as having the first past the last.
+-- The code of an operation. One of an unknown code counts as having the first past the last, so that refusal 2 is one
+-- comparison.
 abbrev pub codeOf : Operation → ℕ
 codeOf (Reset size v1p1) = 0
-codeOf (Branch kind m source target) = 1
+codeOf (Branch kind mispredicted source target) = 1
 codeOf (Exception kind level source target) = 2
-codeOf (Return level m source target) = 3
+codeOf (Return level mispredicted source target) = 3
 codeOf (Platform p) = 4
 codeOf (Read r) = 5
 codeOf (Write r value) = 6

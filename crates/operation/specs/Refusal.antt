@@ -28,9 +28,9 @@ notReset s o = eqb (s .size) 0 && not (eqb (codeOf o) 0)
 -- Addresses, a written value and cycles can be any number. (A count encoding outside its list is `Count.decoded`'s.)
 unfoldable pub outsideList : Operation → Bool
 outsideList (Reset size v1p1) = not (oneOf sizes size) || ltb 1 v1p1
-outsideList (Branch kind m source target) = not (oneOf branchTypes kind) || ltb 1 m
+outsideList (Branch kind mispredicted source target) = not (oneOf branchTypes kind) || ltb 1 mispredicted
 outsideList (Exception kind level source target) = not (oneOf exceptionTypes kind) || ltb 3 level
-outsideList (Return level m source target) = ltb 3 level || ltb 1 m
+outsideList (Return level mispredicted source target) = ltb 3 level || ltb 1 mispredicted
 outsideList (Platform p) = not (within platformMask p)
 outsideList (Read r) = not (isRegister r)
 outsideList (Write r value) = not (isRegister r)
@@ -41,9 +41,9 @@ outsideList Unknown = false
 -- from EL0 and does not go up; neither goes to a level that is not there; and P is set at EL3 alone.
 unfoldable pub wrongLevel : State → Operation → Bool
 wrongLevel s (Reset size v1p1) = false
-wrongLevel s (Branch kind m source target) = false
+wrongLevel s (Branch kind mispredicted source target) = false
 wrongLevel s (Exception kind level source target) = ltb level (s .level) || eqb level 0 || unavailable s level
-wrongLevel s (Return level m source target) = eqb (s .level) 0 || ltb (s .level) level || unavailable s level
+wrongLevel s (Return level mispredicted source target) = eqb (s .level) 0 || ltb (s .level) level || unavailable s level
 wrongLevel s (Platform p) = not (eqb (s .level) 3)
 wrongLevel s (Read r) = false
 wrongLevel s (Write r value) = false
@@ -52,18 +52,19 @@ wrongLevel s Unknown = false
 
 -- Refusal 6: the lent room, of so many numbers, has too few for the size after the operation.
 unfoldable pub roomTooShort : State → Operation → ℕ → Bool
-roomTooShort s o room = ltb room (needed (changed s o .size))
+roomTooShort s o roomLength = ltb roomLength (needed (changed s o .size))
 
 -- The number of the first of some lines whose condition holds; 0 if none does.
 abbrev pub firstThat : List (ℕ × Bool) → ℕ
 firstThat [] = 0
 firstThat (line ∷ lines) = cond (line .1) (line .0) (firstThat lines)
 
--- The lines in their order, each with its number and its condition. `room` is how many numbers the lent room has.
+-- The lines in their order, each with its number and its condition. (7 is for a state handed in as a struct: a lent one is
+-- judged when it is loaded.)
 abbrev pub table : State → Operation → ℕ → List (ℕ × Bool)
-table s o room =
-    (7, not (sound s)) ∷ (2, unknownCode o) ∷ (3, notReset s o) ∷ (4, outsideList o) ∷ (5, wrongLevel s o) ∷ (6, roomTooShort s o room) ∷ []
+table s o roomLength =
+    (7, not (sound s)) ∷ (2, unknownCode o) ∷ (3, notReset s o) ∷ (4, outsideList o) ∷ (5, wrongLevel s o) ∷ (6, roomTooShort s o roomLength) ∷ []
 
 -- The number of an operation's refusal, or 0 where it is accepted.
 unfoldable pub refusalOf : State → Operation → ℕ → ℕ
-refusalOf s o room = firstThat (table s o room)
+refusalOf s o roomLength = firstThat (table s o roomLength)

@@ -55,7 +55,7 @@ pub enum Operation {
     Unknown,
 }
 
-// An operation from its code and four numbers; those beyond its own fields are not looked at.
+// An operation from its code and four numbers, of which it takes its own fields.
 pub fn operation_of(code: u64, a: u64, b: u64, c: u64, d: u64) -> Operation
     ensures { λ o. ⌜ o ≡ operationOf code a b c d ⌝ }
 {
@@ -195,8 +195,8 @@ fn not_reset(s: State, o: Operation) -> bool
     (s.size == 0) & !(code == 0)
 }
 
-// 6: the lent room is below three numbers a record, for the size after the operation. A third of the room is compared,
-// since three times a size could wrap.
+// 6: the lent room has too few numbers for the size after the operation. A third of it is compared, since three times a size
+// could wrap.
 fn room_too_short(s: State, o: Operation, room: usize) -> bool
     ensures { λ r. ⌜ r ≡ roomTooShort s o room ⌝ }
 {

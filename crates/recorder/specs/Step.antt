@@ -23,16 +23,17 @@ use Rattle.recorder.specs.Result.{Result, together}
 -- everything else is done. (Refusal 2 keeps an unknown code away.)
 unfoldable pub answerOf : State → Operation → List ℕ → Answer
 answerOf s (Reset size v1p1) room = Done
-answerOf s (Branch kind m source target) room = Done
+answerOf s (Branch kind mispredicted source target) room = Done
 answerOf s (Exception kind level source target) room = Done
-answerOf s (Return level m source target) room = Done
+answerOf s (Return level mispredicted source target) room = Done
 answerOf s (Platform p) room = Done
 answerOf s (Read r) room = cond (isDone (readOutcome s r)) (Value (registerValue s (records (s .size) room) (meant s r))) (readOutcome s r)
 answerOf s (Write r value) room = writeOutcome s r
 answerOf s Iall room = iallOutcome s
 answerOf s Unknown room = Done
 
--- An accepted operation: the running count takes its cycles, and then a record takes the running count.
+-- An accepted operation. Answer, effect and what is prohibited go by the state before it; the running count takes its cycles,
+-- and then a record takes the running count.
 unfoldable pub accepted : State → Operation → ℕ → List ℕ → Result Answer State
 accepted s o cycles room =
     let running = passed s (changed s o) cycles in

@@ -18,7 +18,7 @@ use Rattle.recording.specs.declared.Numbers.{Numbers}
 use Rattle.recording.specs.declared.Reading.{Reading}
 use Rattle.recording.specs.declared.Reading.the-variants.{Operation}
 use Rattle.recording.specs.Recording.{fieldCount, Several, got, bad, inFront, thenRead, numbersAt, numbersOf, withFields, afterCode, operationAt, bytesOfAll, ownNumbers, operationBytes}
-use Rattle.recording.specs.Operations.{ownFields, recordingBytes, Holds, ends, reads}
+use Rattle.recording.specs.Operations.{asRead, recordingBytes, Holds, ends, reads}
 use Rattle.recording.proofs.Cases.{fields-at-most}
 
 -- Each element is below 2^64
@@ -67,7 +67,7 @@ own-length : (x : Numbers) → length (ownNumbers x) ≡ suc (fieldCount (x .cod
 own-length x = ap suc (length-take-le (fieldCount (x .code)) (x .a ∷ x .b ∷ x .c ∷ x .d ∷ []) (fields-at-most (x .code) .0))
 
 pub read-written-operation : (s : List ℕ) (at : ℕ) (x : Numbers) (b : List ℕ) → Writable x → drop at s ≡ operationBytes x ++ b
-    → operationAt s at ≡ Operation (ownFields x) (at + length (operationBytes x))
+    → operationAt s at ≡ Operation (asRead x) (at + length (operationBytes x))
 unfolding operationAt operationBytes bytesOfAll
 read-written-operation s at x b w e =
     let own = bytesOfAll (ownNumbers x) in
@@ -139,7 +139,7 @@ own-back code (n ∷ l) e =
 -- An operation that was read
 pub record ReadOperation (s : List ℕ) (at : ℕ) (x : Numbers) (next : ℕ) : Type 0 where
   pub again : Writable x
-  pub own : x ≡ ownFields x
+  pub own : x ≡ asRead x
   pub place : next ≡ at + length (operationBytes x)
   pub bytes : drop at s ≡ operationBytes x ++ drop next s
   pub further : at < next
@@ -196,14 +196,14 @@ AllWritable [] = Unit {0}
 AllWritable (x ∷ list) = Writable x × AllWritable list
 
 written-from : (list : List Numbers) (s : List ℕ) (at : ℕ) → AllWritable list → drop at s ≡ recordingBytes list
-    → Holds s at (map ownFields list)
+    → Holds s at (map asRead list)
 unfolding recordingBytes
 written-from [] s at w e = let sizes = simp length-drop at (ap length e) in ends {at = at} (omega arith)
 written-from (x ∷ list) s at w e =
     reads (read-written-operation s at x (recordingBytes list) (w .0) e)
     (written-from list s (at + length (operationBytes x)) (w .1) (past s at (operationBytes x) (recordingBytes list) e))
 
-pub list-round-trip : (list : List Numbers) → AllWritable list → Holds (recordingBytes list) 0 (map ownFields list)
+pub list-round-trip : (list : List Numbers) → AllWritable list → Holds (recordingBytes list) 0 (map asRead list)
 list-round-trip list w = written-from list (recordingBytes list) 0 w refl
 
 -- A recording that reads to the end of input is what its operations are written as

@@ -11,7 +11,7 @@ use lib.ListN.{length, drop, length-drop}
 use Rattle.bits.proofs.Cases.{never}
 use Rattle.number.specs.declared.Found.{Found}
 use Rattle.number.specs.declared.Found.the-variants.{Value, Malformed, Ended}
-use Rattle.number.specs.Number.{numberAt, foundNumber}
+use Rattle.number.specs.Number.{numberAt, foundRefusal}
 use Rattle.number.proofs.Window.{moved, number-moved, Reach, reach, number-window}
 use Rattle.operation.specs.Operation.{lastCode}
 use Rattle.recording.specs.declared.Numbers.{Numbers}

@@ -1,4 +1,4 @@
--- A whole recording: operations one after another, to the end of the input. Document 01, "Recordings"; docs/MANUAL.md,
+-- A whole recording, and what the promises and laws on reading and writing need. Document 01, "Recordings"; docs/MANUAL.md,
 -- "Recordings".
 use Prim.Native.Nat.{ℕ, _≤_}
 use mathlib.Core.Path.{_≡_}
@@ -11,13 +11,13 @@ use Rattle.recording.specs.declared.Reading.the-variants.{Operation}
 use Rattle.recording.specs.Recording.{numbersOf, ownNumbers, operationAt, operationBytes}
 
 -- An operation as a reader gives it: 0 for the numbers beyond its own fields.
-abbrev pub ownFields : Numbers → Numbers
-ownFields x = numbersOf (x .code) (ownNumbers x)
+abbrev pub asRead : Numbers → Numbers
+asRead x = numbersOf (x .code) (ownNumbers x)
 
 -- An operation's six numbers in lent numbers: those past them are as they were. Too few are left alone.
 unfoldable pub storedNumbers : Numbers → List ℕ → List ℕ
-storedNumbers x place =
-    cond (leb 6 (length place)) ((x .code ∷ x .cycles ∷ x .a ∷ x .b ∷ x .c ∷ x .d ∷ []) ++ drop 6 place) place
+storedNumbers x lent =
+    cond (leb 6 (length lent)) ((x .code ∷ x .cycles ∷ x .a ∷ x .b ∷ x .c ∷ x .d ∷ []) ++ drop 6 lent) lent
 
 -- The bytes of operations, one after another.
 unfoldable pub recordingBytes : List Numbers → List ℕ

@@ -15,7 +15,8 @@ use Rattle.recording.specs.declared.Reading.{Reading}
 use Rattle.recording.specs.declared.Reading.the-variants.{Operation, Refused}
 use Rattle.recording.specs.Recording.{operationAt}
 
--- A step's result, and the place where reading goes on, or where the bad number starts.
+-- A step's result, and the place where reading goes on: behind the operation; where the bad number starts, after 1 or 2; and
+-- the place handed in, after 7.
 pub record Recorded : Type 0 where
   pub result : Result Answer State
   pub next : ℕ
@@ -29,7 +30,7 @@ stepOfReading s room (Refused number place) = record { result = refused number s
 -- The step of the operation at a place. A state that is not sound is refused first, with nothing read.
 unfoldable pub recordedStep : State → List ℕ → List ℕ → ℕ → Recorded
 recordedStep s room bytes at =
-    ifSound (judged s) (λ sound. stepOfReading sound room (operationAt bytes at)) (λ n. record { result = refused n s room; next = at })
+    ifSound (judged s) (λ judgedSound. stepOfReading judgedSound room (operationAt bytes at)) (λ n. record { result = refused n s room; next = at })
 
 -- Reading stops after refusals 7, 1 and 2, since the state or the place of the next operation is not known; after every other
 -- answer it goes on.

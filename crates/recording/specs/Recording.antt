@@ -8,7 +8,7 @@ use lib.ListN.{length, getD, take}
 use Rattle.answer.specs.declared.Answer.{Answer}
 use Rattle.number.specs.declared.Found.{Found}
 use Rattle.number.specs.declared.Found.the-variants.{Value, Malformed, Ended}
-use Rattle.number.specs.Number.{numberAt, foundNumber, bytesOf, writtenIf}
+use Rattle.number.specs.Number.{numberAt, foundRefusal, bytesOf, writtenIf}
 use Rattle.operation.specs.Operation.{lastCode}
 use Rattle.recording.specs.declared.Numbers.{Numbers}
 use Rattle.recording.specs.declared.Reading.{Reading}
@@ -32,8 +32,8 @@ inFront n (bad number place) = bad number place
 -- What was found at a place, in front of the rest, which is read from the place after it.
 abbrev pub thenRead : (ℕ → Several) → ℕ → Found → Several
 thenRead rest at (Value n next) = inFront n (rest next)
-thenRead rest at Malformed = bad (foundNumber Malformed) at
-thenRead rest at Ended = bad (foundNumber Ended) at
+thenRead rest at Malformed = bad (foundRefusal Malformed) at
+thenRead rest at Ended = bad (foundRefusal Ended) at
 
 -- So many numbers from a place on.
 unfoldable pub numbersAt : ℕ → List ℕ → ℕ → Several
@@ -53,13 +53,13 @@ abbrev pub withFields : ℕ → Several → Reading
 withFields code (got list next) = Operation (numbersOf code list) next
 withFields code (bad number place) = Refused number place
 
--- What was found where the code stands: without a code the operation is refused as what was found is; a code past the last
--- is 2, before its cycles and fields are read; then these are.
+-- What was found where the code stands. Where no code can be read it is 1; a code past the last is 2, before its cycles and
+-- fields are read; then these are. The place that goes with a refusal is where the bad number starts (house).
 abbrev pub afterCode : List ℕ → ℕ → Found → Reading
 afterCode bytes at (Value code next) =
     cond (ltb lastCode code) (Refused 2 at) (withFields code (numbersAt (suc (fieldCount code)) bytes next))
-afterCode bytes at Malformed = Refused (foundNumber Malformed) at
-afterCode bytes at Ended = Refused (foundNumber Ended) at
+afterCode bytes at Malformed = Refused (foundRefusal Malformed) at
+afterCode bytes at Ended = Refused (foundRefusal Ended) at
 
 -- The operation at a place of a recording, and the place after it; or the number of the refusal, and where the bad number
 -- starts. An operation that the end of the input cuts off has a number that is cut off or missing, and so is refused.

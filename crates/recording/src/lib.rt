@@ -1,4 +1,4 @@
-// Recordings: operations one after another, to the end of the input (document 01, "Recordings"; docs/MANUAL.md, the same).
+// Recordings, read and written (document 01, "Recordings"; docs/MANUAL.md, the same).
 ghost use mathlib.Core.Path.{_≡_};
 ghost use Prim.Native.Nat.{suc, _+_, _≤_};
 ghost use lib.ListN.{length, take};
@@ -217,21 +217,21 @@ fn refused(number: u64, state: State, next: usize) -> Replayed
 }
 
 // An operation's six numbers into lent numbers; none is written where they are too few.
-pub fn store_numbers(place: &mut [u64], x: Numbers)
-    ensures { λ _. ⌜ now (place .exit) ≡ storedNumbers x (now (place .entry)) ⌝ }
+pub fn store_numbers(lent: &mut [u64], x: Numbers)
+    ensures { λ _. ⌜ now (lent .exit) ≡ storedNumbers x (now (lent .entry)) ⌝ }
 {
-    if place.len() < 6 {
+    if lent.len() < 6 {
         return;
     }
-    place[0] = x.code;
-    place[1] = x.cycles;
-    place[2] = x.a;
-    place[3] = x.b;
-    place[4] = x.c;
-    place[5] = x.d;
+    lent[0] = x.code;
+    lent[1] = x.cycles;
+    lent[2] = x.a;
+    lent[3] = x.b;
+    lent[4] = x.c;
+    lent[5] = x.d;
 }
 
-// After 7, 1 or 2 reading stops; after another refusal it goes on.
+// No operation is read behind this answer.
 pub fn stops_reading(answer: Answer) -> bool
     ensures { λ r. ⌜ r ≡ stopsReading answer ⌝ }
 {

@@ -5,11 +5,10 @@ use mathlib.Core.Bool.{Bool, cond, _&&_, _||_, not}
 use lib.Dec.{eqb}
 use Rattle.bits.specs.Bits.{isSet}
 use Rattle.state.specs.declared.State.{State}
-use Rattle.state.specs.Named.{NS, TGE, SBRBE, EL2Enabled, EL3Recorded}
+use Rattle.state.specs.Named.{NS, TGE, SBRBE, EL2Enabled, EL3RecordingEnabled}
 
--- The bit that enables a level below EL3: E2BRE for EL2 (R_SFZQD), E1BRE for EL1 (R_YPHYG), and for EL0 the one of the
--- register that governs it (R_DBPCP): BRBCR_EL2.E0HBRE where EL0 stands below EL2, since TGE is 1 and EL2 enabled, else
--- BRBCR_EL1.E0BRE.
+-- The bit that enables a level below EL3: E2BRE for EL2 (R_SFZQD), E1BRE for EL1 (R_YPHYG), and for EL0 (R_DBPCP)
+-- BRBCR_EL2.E0HBRE where TGE is 1 and EL2 enabled, so that EL2 and not EL1 governs EL0, else BRBCR_EL1.E0BRE.
 unfoldable pub enabled : State → ℕ → Bool
 enabled s level =
     cond (eqb level 2) (isSet 1 (s .brbcr2))
@@ -20,7 +19,7 @@ enabled s level =
 abbrev pub prohibitedBySBRBE : State → Bool
 prohibitedBySBRBE s = eqb (SBRBE s) 0 || eqb (SBRBE s) 1 && not (NS s)
 
--- Recording is prohibited at the level: at EL3 where it is not recorded (R_GLKGW), below where SBRBE prohibits it or the
+-- Recording is prohibited at the level: at EL3 where it is not enabled (R_GLKGW), below where SBRBE prohibits it or the
 -- level's enabling bit is 0.
 unfoldable pub prohibited : State → ℕ → Bool
-prohibited s level = cond (eqb level 3) (not (EL3Recorded s)) (prohibitedBySBRBE s || not (enabled s level))
+prohibited s level = cond (eqb level 3) (not (EL3RecordingEnabled s)) (prohibitedBySBRBE s || not (enabled s level))

@@ -36,7 +36,7 @@ fn prohibited_by_sbrbe(s: State) -> bool
 pub fn prohibited(s: State, level: u64) -> bool
     ensures { λ r. ⌜ r ≡ prohibited s level ⌝ }
 {
-    let recorded = s.el3_recorded();
+    let recorded = s.el3_recording_enabled();
     let below3 = prohibited_by_sbrbe(s) | !enabled(s, level);
     pick_bool(level == 3, !recorded, below3)
 }

@@ -30,12 +30,13 @@ numbered r list = getD list r zeroRecord
 abbrev pub needed : ℕ → ℕ
 needed size = 3 * size
 
--- The room with a new record as number 0: the others move up by one, and the last of a full buffer is lost. Numbers past the
--- needed ones are as they were. A room that is too short, which refusal 6 keeps away, is left alone.
+-- The room with one more record, at the front; what stood in the last place is gone, be it a record or zero. Numbers past the
+-- needed ones are as they were. A room that is too short, which refusal 6 keeps away, is left alone, and so is one for no
+-- record, which refusal 3 keeps away.
 unfoldable pub pushed : ℕ → Record → List ℕ → List ℕ
-pushed size r room =
+pushed size new room =
     cond (leb 1 size && leb (needed size) (length room))
-    (r .inf ∷ r .source ∷ r .target ∷ (take (needed size - 3) room ++ drop (needed size) room))
+    (new .inf ∷ new .source ∷ new .target ∷ (take (needed size - 3) room ++ drop (needed size) room))
     room
 
 -- The room with every record zero. Numbers past the needed ones are as they were, and so is a room that is too short.
@@ -45,6 +46,6 @@ cleared size room = cond (leb (needed size) (length room)) (replicate (needed si
 -- The room after an effect, where the size before it was the given one; a reset brings its own.
 unfoldable pub roomAfter : ℕ → Effect → List ℕ → List ℕ
 roomAfter size Keep room = room
-roomAfter size (Push r) room = pushed size r room
+roomAfter size (Push new) room = pushed size new room
 roomAfter size Clear room = cleared size room
 roomAfter size (ResetTo n) room = cleared n room

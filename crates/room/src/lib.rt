@@ -33,7 +33,7 @@ pub enum Effect {
     Push(Record),
     // Every record becomes zero: BRB IALL.
     Clear,
-    // Every record of this size becomes zero: a reset.
+    // Every record of a buffer of this size becomes zero: a reset.
     ResetTo(u64),
 }
 
@@ -50,7 +50,7 @@ fn shift(room: &mut [u64], kept: usize)
     }
 }
 
-// A new record becomes number 0, and the others move up by one. The room is tested by a division, so that no size overflows.
+// One more record, at the front. The room is tested by a division, so that no size overflows.
 pub fn push(room: &mut [u64], size: u64, r: Record)
     ensures { λ _. ⌜ now (room .exit) ≡ pushed size r (now (room .entry)) ⌝ }
 {

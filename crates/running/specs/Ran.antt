@@ -4,7 +4,7 @@ use mathlib.Core.Bool.{Bool, cond}
 use Rattle.state.specs.declared.Running.{Running}
 use Rattle.state.specs.Sound.{cap}
 
--- The operation's cycles are added, and the count stands still at the cap, past which every count is exceeded (R_XGSSZ). On
+-- The operation's cycles are added, and the count stands still at the cap, which already exceeds the counter (R_XGSSZ). On
 -- an occasion the next count becomes unknown, and stays so until a record takes it. (A reset drops the count and its own
 -- cycles: `Change.runningAfter`.)
 abbrev pub ran : Running → Bool → ℕ → Running

@@ -1,5 +1,5 @@
-// The running count, a struct that is lent by reference to each step and changed in place (document 01, "Cycles";
-// docs/MANUAL.md, the same).
+// The step of the running count, which every operation's step borrows and changes (document 01, "Cycles"; docs/MANUAL.md, the
+// same).
 ghost use mathlib.Core.Path.{_≡_};
 ghost use Prim.Native.Nat.{_+_, min};
 ghost use Rattle.state.specs.Sound.{cap};

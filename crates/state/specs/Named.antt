@@ -33,23 +33,24 @@ SBRBE s = part 5 4 (s .p)
 abbrev pub FGTEn : State → Bool
 FGTEn s = isSet 8 (s .p)
 
--- P bit 9: the n-bit of reading records. An n-bit that is 0 traps its accesses at EL1.
+-- P bit 9: HDFGRTR_EL2.nBRBDATA, the n-bit of reading records. An n-bit that is 0 traps its accesses at EL1 to EL2, where EL2
+-- is enabled and FGTEn is 1.
 abbrev pub nBRBDATA : State → Bool
 nBRBDATA s = isSet 9 (s .p)
 
--- P bit 10: the n-bit of reading control registers.
+-- P bit 10: HDFGRTR_EL2.nBRBCTL, the n-bit of reading control registers.
 abbrev pub nBRBCTLRead : State → Bool
 nBRBCTLRead s = isSet 10 (s .p)
 
--- P bit 11: the n-bit of writing control registers.
+-- P bit 11: HDFGWTR_EL2.nBRBCTL, the n-bit of writing control registers.
 abbrev pub nBRBCTLWrite : State → Bool
 nBRBCTLWrite s = isSet 11 (s .p)
 
--- P bit 12: the n-bit of BRBIDR0_EL1.
+-- P bit 12: HDFGRTR_EL2.nBRBIDR, the n-bit of BRBIDR0_EL1.
 abbrev pub nBRBIDR : State → Bool
 nBRBIDR s = isSet 12 (s .p)
 
--- P bit 13: the n-bit of BRB IALL.
+-- P bit 13: HFGITR_EL2.nBRBIALL, the n-bit of BRB IALL.
 abbrev pub nBRBIALL : State → Bool
 nBRBIALL s = isSet 13 (s .p)
 
@@ -59,8 +60,8 @@ EL2Enabled s = NS s || EEL2 s
 
 -- Self-hosted EL3 branch recording is enabled, on a processor that has it (v1p1). P bit 6 is what R_JWWFY makes of
 -- MDCR_EL3.{E3BREC, E3BREW}: the host forms it.
-abbrev pub EL3Recorded : State → Bool
-EL3Recorded s = eqb (s .v1p1) 1 && isSet 6 (s .p)
+abbrev pub EL3RecordingEnabled : State → Bool
+EL3RecordingEnabled s = eqb (s .v1p1) 1 && isSet 6 (s .p)
 
 -- Counting is on: bit 3 (CC) of BRBCR_EL1 and of BRBCR_EL2, also where EL2 is not enabled. R_MJDLC.
 abbrev pub counting : State → Bool
@@ -82,7 +83,7 @@ BANK s = part 29 28 (s .brbfcr)
 abbrev pub sizes : List ℕ
 sizes = 8 ∷ 16 ∷ 32 ∷ 64 ∷ []
 
--- The state before any reset: every number is 0.
+-- The state that a host begins with: no number of it is set.
 abbrev pub fresh : State
 fresh = stateOf []
 
@@ -106,7 +107,7 @@ withRunning r s = withNumber 7 (r .count) (withNumber 8 (r .unknown) s)
 abbrev pub runningAfterReset : Running
 runningAfterReset = record { count = 0; unknown = 1 }
 
--- A reset: level 3, its size and v1p1, and 0 in P and in every register. (House: a cold reset leaves much of this unknown on
--- a processor.)
+-- A reset: level 3, its size and v1p1, 0 in P and in the three control registers, and the running count after a reset. (House:
+-- on a processor a cold reset leaves much of this unknown.)
 abbrev pub afterReset : ℕ → ℕ → State
 afterReset size v1p1 = withRunning runningAfterReset (atLevel 3 (withNumber 1 size (withNumber 2 v1p1 fresh)))

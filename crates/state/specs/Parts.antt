@@ -1,5 +1,5 @@
--- The state as its numbers, in the order in which a host lends them (house): level, size, v1p1, P, BRBCR_EL1, BRBCR_EL2,
--- BRBFCR_EL1, the running count, and whether the next count is unknown. docs/MANUAL.md, "State and room".
+-- The state as its numbers, in the order in which a host lends them (house): 0 level, 1 size, 2 v1p1, 3 P, 4 BRBCR_EL1,
+-- 5 BRBCR_EL2, 6 BRBFCR_EL1, 7 the running count, 8 whether the next count is unknown. docs/MANUAL.md, "State and room".
 use Prim.Native.Nat.{ℕ, zero, suc}
 use mathlib.Core.List.{List, [], _∷_}
 use lib.ListN.{getD}
@@ -20,7 +20,7 @@ abbrev pub wordsOf : State → List ℕ
 wordsOf s =
     s .level ∷ s .size ∷ s .v1p1 ∷ s .p ∷ s .brbcr1 ∷ s .brbcr2 ∷ s .brbfcr ∷ s .running .count ∷ s .running .unknown ∷ []
 
--- A list with n at place k, counted from 0.
+-- A list with n at place k, counted from 0; past its end it is as it was.
 abbrev pub replaced : ℕ → ℕ → List ℕ → List ℕ
 replaced k n [] = []
 replaced zero n (x ∷ list) = n ∷ list

@@ -23,8 +23,8 @@ filterMask = 0x307F0080
 abbrev pub cap : ℕ
 cap = 1048576
 
--- A level that is not there: EL2 where it is not enabled, and EL1 where TGE is 1 and EL2 is enabled, since EL0 then stands
--- below EL2. No sound state is at such a level, and no event enters it.
+-- A level that is not there: EL2 where it is not enabled, and EL1 where TGE is 1 and EL2 is enabled, since EL0 then has EL2
+-- directly above it. No sound state is at such a level, and no event enters it.
 unfoldable pub unavailable : State → ℕ → Bool
 unavailable s level = eqb level 2 && not (EL2Enabled s) || eqb level 1 && TGE s && EL2Enabled s
 

@@ -2,7 +2,7 @@
 ghost use mathlib.Core.Path.{_≡_};
 ghost use mathlib.Core.Bool.{Bool};
 ghost use Rattle.bits.specs.Bits.{oneOf};
-ghost use Rattle.state.specs.Named.{EL2Enabled, EL3Recorded, counting, predictionShown, PAUSED, BANK, sizes, fresh, afterReset, atLevel, withPlatform, withRegisters, withRunning};
+ghost use Rattle.state.specs.Named.{EL2Enabled, EL3RecordingEnabled, counting, predictionShown, PAUSED, BANK, sizes, fresh, afterReset, atLevel, withPlatform, withRegisters, withRunning};
 ghost use Rattle.state.specs.Sound.{unavailable, sound};
 ghost use Rattle.state.specs.Words.{stored, loaded};
 
@@ -72,8 +72,8 @@ impl State {
     }
 
     // Self-hosted EL3 branch recording is enabled.
-    pub fn el3_recorded(self) -> bool
-        ensures { λ r. ⌜ r ≡ EL3Recorded self ⌝ }
+    pub fn el3_recording_enabled(self) -> bool
+        ensures { λ r. ⌜ r ≡ EL3RecordingEnabled self ⌝ }
     {
         (self.v1p1 == 1) & (self.p / EL3_RECORDING % 2 == 1)
     }

@@ -13,8 +13,8 @@ use Rattle.number.specs.Number.{written}
 use Rattle.recording.specs.RecordedStep.{Recorded, recordedStep, stopsReading}
 use Rattle.line.specs.Line.{lineOf, lineWritten, lineCount}
 use Rattle.line.specs.Turn.{turnOf}
-use Rattle.line.specs.Stream.{Enough, Turns, replays, stops}
-use Rattle.line.proofs.Stream.{movedStep, step-moved}
+use Rattle.line.specs.Pieces.{Enough, Turns, replays, stops}
+use Rattle.line.proofs.Pieces.{movedStep, step-moved}
 use Rattle.stream.specs.declared.Progress.{Progress}
 use Rattle.stream.specs.Stream.{Standing, operated, next, unreadOf}
 

@@ -1,4 +1,4 @@
--- An operation read into a lent place, as defined: the place is judged first.
+-- An operation read into lent numbers, as defined: they are judged first.
 use borrow.Author.Needs.{needs}
 use borrow.Author.Tests.{lt-ltb, le-ltb}
 use Rattle.brb.specs.Recordings.{readResult}

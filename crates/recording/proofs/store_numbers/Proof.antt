@@ -24,5 +24,5 @@ store-numbers-spec =
     (λ c. simp length-set)
     (λ c.
     let a = c .before .args in
-    rw (le-leb 6 (length (a .place .now)) (omega arith))
-    (sets-eq (a .x .code ∷ a .x .cycles ∷ a .x .a ∷ a .x .b ∷ a .x .c ∷ a .x .d ∷ []) (a .place .now) 0 (omega arith))))
+    rw (le-leb 6 (length (a .lent .now)) (omega arith))
+    (sets-eq (a .x .code ∷ a .x .cycles ∷ a .x .a ∷ a .x .b ∷ a .x .c ∷ a .x .d ∷ []) (a .lent .now) 0 (omega arith))))

@@ -1,4 +1,4 @@
--- A replay whose input comes in pieces: what its turns print, one after another. docs/MANUAL.md, "Programs".
+-- A replay whose input comes in pieces (house): what its turns print, one after another. docs/MANUAL.md, "Programs".
 use Prim.Native.Nat.{ℕ, suc, _≤_, _<_}
 use mathlib.Core.Path.{_≡_}
 use mathlib.Core.Bool.{true, false}
@@ -32,7 +32,7 @@ pub data Turns : State → List ℕ → List ℕ → List ℕ → List ℕ → T
       → Turns s room unread (lineOf (r .result .answer)) input
   ends : {s : State} {room : List ℕ} → Turns s room [] [] []
 
--- How many turns there are.
+-- How many turns there are, the one that ends the replay included.
 unfoldable pub turnCount : {s : State} {room unread lines input : List ℕ} → Turns s room unread lines input → ℕ
 turnCount (brings piece some more) = suc (turnCount more)
 turnCount (replays is some enough goes more) = suc (turnCount more)

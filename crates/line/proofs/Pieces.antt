@@ -24,7 +24,7 @@ use Rattle.recording.specs.Recording.{operationAt}
 use Rattle.recording.specs.RecordedStep.{Recorded, stepOfReading, recordedStep, stopsReading}
 use Rattle.recording.proofs.Window.{movedReading, operation-moved, operation-window, operation-reach, refused-by}
 use Rattle.line.specs.Line.{lineOf, replayFrom, replayOf}
-use Rattle.line.specs.Stream.{Enough, Turns, brings, replays, stops, ends, turnCount}
+use Rattle.line.specs.Pieces.{Enough, Turns, brings, replays, stops, ends, turnCount}
 
 -- ---- one operation of the input, seen through the unread bytes
 

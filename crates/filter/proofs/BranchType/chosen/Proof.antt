@@ -1,9 +1,0 @@
--- The filter, as defined: a bit at a variable place is a shift, and the place is below 64.
-use borrow.Author.Needs.{needs}
-use Rattle.filter.specs.Filter.{chosen}
-use Rattle.filter.proofs.BranchType.chosen.Statement.{statement}
-use Rattle.filter.proofs.BranchType.chosen.Tie as tie
-
-pub chosen-spec : {M : Type 1} → statement M
-unfolding chosen
-chosen-spec = tie.close (tie.spec (λ _ _. tt) (λ c. search needs) (λ c. rw (← c .filter-bit .ensures .0)))
