@@ -2,7 +2,7 @@
 use Prim.Native.Nat.{ℕ, _+_}
 use mathlib.Core.Path.{_≡_, refl}
 use mathlib.Core.Bool.{Bool, true, false}
-use mathlib.Core.List.{List, [], _∷_, _++_}
+use mathlib.Core.List.{List, [], _∷_, _++_, map}
 use lib.ListN.{length, replicate}
 use Rattle.state.specs.Named.{fresh}
 use Rattle.room.specs.declared.Record.{Record}
@@ -18,7 +18,7 @@ use Rattle.operation.specs.Refusal.{unknownCode, notReset, outsideList, wrongLe
 use Rattle.operation.specs.Changed.{changed}
 use Rattle.change.specs.Change.{occasion, passed, effectOf}
 use Rattle.recorder.specs.Step.{answerOf, accepted, stepOf}
-use Rattle.history.specs.History.{Timed, Machine, stepped, run, shown, notedStep, notedRun, history, notesOf, stretch, S, T, acceptedCycles, justMade}
+use Rattle.history.specs.History.{Timed, Machine, stepped, run, shown, CCU, CC, notedStep, notedRun, history, notesOf, stretch, S, T, acceptedCycles, justMade}
 use Rattle.history.specs.Events.{restarts, howMany, Between}
 use Rattle.history.proofs.Clock.{exact-time}
 
@@ -89,13 +89,38 @@ closed-between =
       after = more;
       whole = refl;
       oldest = record {
-        event = record { earlier = earlier; event = operation 1 295 8 1 4112 4096; ends = refl; is-accepted = refl; makes = refl };
+        event = record { earlier = earlier; event = operation 1 295 8 1 4112 4096; ends = refl; makes = (refl, refl) };
         moved = refl;
         kept = refl;
       };
       newest = record {
-        event = record { earlier = before ++ between; event = operation 1 500 0 0 4100 4112; ends = refl; is-accepted = refl; makes = refl };
+        event = record { earlier = before ++ between; event = operation 1 500 0 0 4100 4112; ends = refl; makes = (refl, refl) };
         moved = refl;
         kept = refl;
       };
     }
+
+-- Each of the listed occasions, and after it a record whose count is known again: PAUSED set and cleared; counting turned off and on; an
+-- exception to EL3, which is prohibited, and back.
+abbrev occasions : List Timed
+occasions =
+    before
+    ++ (operation 6 1 3 65664 0 0
+    ∷ operation 6 1 3 65536 0 0
+    ∷ operation 1 10 0 0 4100 4112
+    ∷ operation 1 20 0 0 4100 4112
+    ∷ operation 6 1 1 2 0 0
+    ∷ operation 6 1 1 10 0 0
+    ∷ operation 1 30 0 0 4100 4112
+    ∷ operation 1 40 0 0 4100 4112
+    ∷ operation 2 5 0x22 3 4100 4112
+    ∷ operation 3 6 1 0 4100 4112
+    ∷ operation 1 50 0 0 4100 4112
+    ∷ operation 1 60 0 0 4100 4112
+    ∷ [])
+
+-- CCU and CC of the records, newest first.
+pub closed-occasions : map {B = ℕ × ℕ} (λ (r : Record). (CCU r, CC r)) (shown (run start occasions))
+    ≡ (0, 60) ∷ (1, 0) ∷ (0, 40) ∷ (1, 0) ∷ (0, 20) ∷ (1, 0) ∷ (0, 300) ∷ (0, 0) ∷ []
+unfolding bitLength exponent mantissa encoded countOf decoded unavailable sound records numbered pushed cleared roomAfter enabled prohibited filterBit chosen controlled valid countUnknown MPRED BRBINF recordOf becomesRecord nBit trapped2 outcome readOutcome writeOutcome iallOutcome registerWritten operationOf unknownCode notReset outsideList wrongLevel roomTooShort refusalOf changed occasion passed effectOf answerOf accepted stepOf stepped run notedStep notedRun stretch S acceptedCycles howMany
+closed-occasions = refl

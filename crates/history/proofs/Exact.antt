@@ -149,7 +149,7 @@ module _ (m : Machine) where
       unfolding howMany
       its-event e =
           record {
-            event = record { earlier = done; event = t; ends = e; is-accepted = is; makes = rw seen makes };
+            event = record { earlier = done; event = t; ends = e; makes = (is, rw seen makes) };
             moved = refl;
             kept = refl;
           }

@@ -4,5 +4,6 @@ pub mod Demand3
 pub mod Counts
 pub mod Clock
 pub mod Exact
+pub mod Unknown
 pub mod ClosedRun
 pub mod Sound
