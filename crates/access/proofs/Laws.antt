@@ -68,7 +68,12 @@ pub ends-as-arm-says : (s : State) (undefined nbit : Bool)
     × (s .level ≡ 2 → outcome s undefined nbit ≡ elsif ((undefined, Undefined) ∷ (secureTrap s, Trap3) ∷ (otherTrap s, Trap3) ∷ []) Done)
     × (s .level ≡ 3 → outcome s undefined nbit ≡ elsif ((undefined, Undefined) ∷ []) Done)
 unfolding outcome trapped2
-ends-as-arm-says s u n = (λ e. rw e, λ e. rw (e, to-EL3 s), λ e. rw (e, to-EL3 s), λ e. rw e)
+ends-as-arm-says s u n = (
+  λ e. rw e,
+  λ e. rw e (ap (λ (end : Answer). cond u Undefined (cond (EL2Enabled s && FGTEn s && not n) Trap2 end)) (to-EL3 s)),
+  λ e. rw e (ap (λ (end : Answer). cond u Undefined end) (to-EL3 s)),
+  λ e. rw e,
+)
 
 -- "Writing 0 or a record register: UNDEFINED. Register 2 at EL1: UNDEFINED." At every level, and before every trap.
 pub undefined-accesses : (s : State)
