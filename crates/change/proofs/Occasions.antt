@@ -98,3 +98,15 @@ module _ (s : State) where
   which-occasion (Write r value) k h = by-write r value h
   which-occasion Iall k h = by-level _ refl refl h
   which-occasion Unknown k h = by-level _ refl refl h
+
+  -- Where the operation sets nothing, only its level can be one.
+  pub unchanged-occasion : occasion s s ≡ prohibited s (s .level)
+  unfolding occasion
+  unchanged-occasion = go (prohibited s (s .level)) (counting s) (PAUSED s)
+    where
+      go : (level counts paused : Bool) → level || not counts && counts || paused && not paused ≡ level
+      go true counts paused = refl
+      go false true true = refl
+      go false true false = refl
+      go false false true = refl
+      go false false false = refl
