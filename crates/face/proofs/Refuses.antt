@@ -213,12 +213,12 @@ read-refused bytes at place = go (ltb (length place) 6) (operationAt bytes at)
 -- ---- brb_recording_write
 
 -- The bytes have room at the position or not, beside what the code says.
-data Fits (x : Numbers) (at : ℕ) (out : List ℕ) : Type 0 where
+pub data Fits (x : Numbers) (at : ℕ) (out : List ℕ) : Type 0 where
   above : lastCode < x .code → Fits x at out
   short : x .code ≤ lastCode → length out < at + length (operationBytes x) → Fits x at out
   fits : x .code ≤ lastCode → at + length (operationBytes x) ≤ length out → Fits x at out
 
-fitted : (x : Numbers) (at : ℕ) (out : List ℕ) → Fits x at out
+pub fitted : (x : Numbers) (at : ℕ) (out : List ℕ) → Fits x at out
 fitted x at out =
     ⊎-elim above (λ known. ⊎-elim (short known) (fits known) (below-or-not (length out) (at + length (operationBytes x)))) (below-or-not lastCode (x .code))
 
