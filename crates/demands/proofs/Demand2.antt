@@ -12,7 +12,7 @@ use lib.ListN.{length, List·getD-eq-default}
 use Rattle.bits.proofs.Cases.{never}
 use Rattle.state.specs.declared.State.{State}
 use Rattle.state.specs.declared.Running.{Running}
-use Rattle.state.specs.Named.{PAUSED, BANK, withRunning}
+use Rattle.state.specs.Named.{E2H, PAUSED, BANK, withRunning}
 use Rattle.room.specs.declared.Record.{Record}
 use Rattle.room.specs.declared.Effect.{Effect}
 use Rattle.room.specs.declared.Effect.the-variants.{Keep, Push, Clear, ResetTo}
@@ -22,8 +22,9 @@ use Rattle.region.specs.Region.{prohibited}
 use Rattle.event.specs.declared.Event.{Event}
 use Rattle.event.specs.Event.{valid, recordOf, becomesRecord, eventEffect}
 use Rattle.event.proofs.Laws.{Hidden, record-hidden, Captured, record-captured}
+use Rattle.answer.specs.declared.Answer.the-variants.{Done, Value}
 use Rattle.answer.specs.Answer.{isDone}
-use Rattle.access.specs.Access.{iallOutcome, shownRecord, shownNumber, registerValue}
+use Rattle.access.specs.Access.{readOutcome, iallOutcome, meant, shownRecord, shownNumber, registerValue}
 use Rattle.operation.specs.declared.Operation.{Operation}
 use Rattle.operation.specs.declared.Operation.the-variants.{Reset, Branch, Exception, Return, Platform, Read, Write, Iall, Unknown}
 use Rattle.operation.specs.Refusal.{notReset, refusalOf}
@@ -177,6 +178,30 @@ pub read-past : (s : State) (size m : ℕ) (room : List ℕ) → size ≤ m + 32
     → numbered (m + 32 * BANK s) (records size room) ≡ zeroRecord
 unfolding numbered
 read-past s size m room h = List·getD-eq-default (records size room) zeroRecord (rw (length-records size room) h)
+
+-- What a performed read answers.
+pub read-answer : (s : State) (r cycles : ℕ) (room : List ℕ) → refusalOf s (Read r) (length room) ≡ 0 → readOutcome s r ≡ Done
+    → stepOf s (Read r) cycles room .answer ≡ Value (registerValue s (records (s .size) room) (meant s r))
+unfolding accepted answerOf
+read-answer s r cycles room h done = rw (accepted-step s (Read r) cycles room h, done)
+
+-- A record register past the size answers 0, whatever BANK is: BRBINF, BRBSRC and BRBTGT are registers 32, 64 and 96 on.
+pub past-the-size : (s : State) (kind m cycles : ℕ) (room : List ℕ) → 1 ≤ kind → m < 32 → s .size ≤ m + 32 * BANK s
+    → refusalOf s (Read (32 * kind + m)) (length room) ≡ 0
+    → readOutcome s (32 * kind + m) ≡ Done
+    → stepOf s (Read (32 * kind + m)) cycles room .answer ≡ Value 0
+unfolding shownNumber shownRecord
+past-the-size s kind m cycles room low h past accept done =
+    let r : ℕ = 32 * kind + m in
+    let itself : meant s r ≡ r = rw (ne-eqb r 1 (omega arith)) (never-wanted (eqb (s .level) 2 && E2H s) 2 r) in
+    let number : r % 32 ≡ m = omega arith in
+    read-answer s r cycles room accept done
+    ∙ ap Value (rw (itself, record-register s (records (s .size) room) r (omega arith), number, read-past s (s .size) m room past) (all-zero (eqb (r / 32) 1) (eqb (r / 32) 2)))
+  where
+    all-zero : (a b : Bool) → _≡_ {A = ℕ} (cond a 0 (cond b 0 0)) 0
+    all-zero true b = refl
+    all-zero false true = refl
+    all-zero false false = refl
 
 -- ---- not-performed: an access that is not performed changes nothing but the count and its occasions
 
