@@ -43,22 +43,23 @@ which-holds false true c h = two refl
 which-holds false false c h = three h
 
 module _ (s : State) where
-  -- By the state before and the state set.
-  tests : (after : State) → OneOf (prohibited s (s .level)) (not (counting s) && counting after) (PAUSED s && not (PAUSED after))
-      → occasion s after ≡ true
-  unfolding occasion
-  tests after h = one-holds (prohibited s (s .level)) (not (counting s) && counting after) (PAUSED s && not (PAUSED after)) h
+  -- Each of them is an occasion of the definition.
+  listed : {o : Operation} → Occasion s o
+      → OneOf (prohibited s (s .level)) (not (counting s) && counting (changed s o)) (PAUSED s && not (PAUSED (changed s o)))
+  listed (began-prohibited h) = one h
+  listed (counting-turned-on off on) = two (rw (off, on))
+  listed (PAUSED-cleared was is) = three (rw (was, is))
 
+  pub is-occasion : {o : Operation} → Occasion s o → occasion s (changed s o) ≡ true
+  unfolding occasion
+  is-occasion {o} h =
+      one-holds (prohibited s (s .level)) (not (counting s) && counting (changed s o)) (PAUSED s && not (PAUSED (changed s o))) (listed h)
+
+  -- Which test it is, by the state before and the state set.
   which : (after : State) → occasion s after ≡ true
       → OneOf (prohibited s (s .level)) (not (counting s) && counting after) (PAUSED s && not (PAUSED after))
   unfolding occasion
   which after h = which-holds (prohibited s (s .level)) (not (counting s) && counting after) (PAUSED s && not (PAUSED after)) h
-
-  -- Each of them is an occasion of the definition.
-  pub is-occasion : {o : Operation} → Occasion s o → occasion s (changed s o) ≡ true
-  is-occasion {o} (began-prohibited h) = tests (changed s o) (one h)
-  is-occasion (counting-turned-on {register} {value} off on) = tests (changed s (Write register value)) (two (rw (off, on)))
-  is-occasion (PAUSED-cleared {register} {value} was is) = tests (changed s (Write register value)) (three (rw (was, is)))
 
   -- Where neither register is changed, only the level can make one.
   by-level : {o : Operation} (after : State) → counting after ≡ counting s → PAUSED after ≡ PAUSED s → occasion s after ≡ true → Occasion s o

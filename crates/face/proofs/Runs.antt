@@ -12,7 +12,7 @@ use Rattle.state.specs.Named.{fresh}
 use Rattle.state.specs.Parts.{stateNumbers}
 use Rattle.state.specs.Sound.{unavailable, sound}
 use Rattle.state.specs.Words.{loaded, judged, stored}
-use Rattle.state.proofs.Laws.{loaded-stored, stored-again, kept}
+use Rattle.state.proofs.Laws.{load-stored, loaded-stored, stored-again, kept}
 use Rattle.room.specs.Room.{records, cleared, roomAfter}
 use Rattle.region.specs.Region.{enabled, prohibited}
 use Rattle.access.specs.Access.{nBit, trapped2, outcome, readOutcome, registerValue}
@@ -31,9 +31,9 @@ use Rattle.recording.specs.Operations.{Holds, ends, reads}
 use Rattle.brb.specs.declared.BrbRecorded.{BrbRecorded}
 use Rattle.brb.specs.Face.{stepResult}
 use Rattle.brb.specs.Recordings.{recordedResult}
-use Rattle.history.specs.History.{Timed, Machine, stepped, run}
+use Rattle.history.specs.History.{Timed, Machine, stepped, run, shown}
 use Rattle.history.proofs.Sound.{sound-kept, sound-run}
-use Rattle.face.specs.Calls.{Lent, stepCall, recordedCall, left, calls, Position, recordedCalls, callsThrough, operationsAt, timed, holding, withNext}
+use Rattle.face.specs.Calls.{Lent, stepCall, recordedCall, left, calls, Position, recordedCalls, callsThrough, operationsAt, timed, holding, withNext, recordsIn}
 
 module _ (words : List ℕ) (enough : stateNumbers ≤ length words) where
   call-left : (m : Machine) (n : Numbers) → sound (m .state) ≡ true → left (stepCall (holding words m) n) ≡ holding words (stepped m (timed n))
@@ -53,8 +53,13 @@ module _ (words : List ℕ) (enough : stateNumbers ≤ length words) where
   call-answers m list n h =
       rw (calls-run m list h, loaded-stored (run m (map timed list) .state) words enough (sound-run m (map timed list) h))
 
+  -- ... and the records that the lent memory then holds are the run's, so that what is proved of a run's records is of what a host finds.
+  pub records-run : (m : Machine) (list : List Numbers) → sound (m .state) ≡ true
+      → recordsIn (calls (holding words m) list) ≡ shown (run m (map timed list))
+  records-run m list h = rw (calls-run m list h, load-stored (run m (map timed list) .state) words enough)
+
   -- A recorded call that finds an operation is the call with that operation's numbers, and answers where reading goes on.
-  recorded-call : (m : Machine) (bytes : List ℕ) (at : ℕ) (n : Numbers) (next : ℕ) → sound (m .state) ≡ true
+  pub recorded-call : (m : Machine) (bytes : List ℕ) (at : ℕ) (n : Numbers) (next : ℕ) → sound (m .state) ≡ true
       → operationAt bytes at ≡ Operation n next
       → recordedCall bytes (holding words m) at ≡ withNext next (stepCall (holding words m) n)
   unfolding recordedResult stepResult lentStep

@@ -2,7 +2,10 @@
 use Prim.Native.Nat.{ℕ, zero, suc}
 use mathlib.Core.List.{List, [], _∷_}
 use Rattle.answer.specs.declared.Returned.{Returned}
+use Rattle.state.specs.Parts.{stateOf}
 use Rattle.state.specs.Words.{stored}
+use Rattle.room.specs.declared.Record.{Record}
+use Rattle.room.specs.Room.{records}
 use Rattle.operation.specs.Operation.{operationOf}
 use Rattle.recorder.specs.Result.{Result, together}
 use Rattle.recording.specs.declared.Numbers.{Numbers}
@@ -71,3 +74,7 @@ holding words m = record { words = stored (m .state) words; room = m .room }
 -- A call's result, with the position where reading goes on.
 abbrev pub withNext : ℕ → Result Returned (List ℕ) → Result BrbRecorded (List ℕ)
 withNext next r = together (record { number = r .answer .number; value = r .answer .value; next = next }) (r .state) (r .room)
+
+-- The records that lent memory holds, newest first, as many as the size that it holds.
+abbrev pub recordsIn : Lent → List Record
+recordsIn x = records (stateOf (x .words) .size) (x .room)
