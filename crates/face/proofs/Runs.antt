@@ -56,7 +56,9 @@ module _ (words : List ℕ) (enough : stateNumbers ≤ length words) where
   -- ... and the records that the lent memory then holds are the run's, so that what is proved of a run's records is of what a host finds.
   pub records-run : (m : Machine) (list : List Numbers) → sound (m .state) ≡ true
       → recordsIn (calls (holding words m) list) ≡ shown (run m (map timed list))
-  records-run m list h = rw (calls-run m list h, load-stored (run m (map timed list) .state) words enough)
+  records-run m list h =
+      let end = run m (map timed list) in
+      ap recordsIn (calls-run m list h) ∙ ap (λ (s : State). records (s .size) (end .room)) (load-stored (end .state) words enough)
 
   -- A recorded call that finds an operation is the call with that operation's numbers, and answers where reading goes on.
   pub recorded-call : (m : Machine) (bytes : List ℕ) (at : ℕ) (n : Numbers) (next : ℕ) → sound (m .state) ≡ true
