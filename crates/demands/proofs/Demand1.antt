@@ -29,11 +29,11 @@ use Rattle.recorder.specs.Lent.{lentStep}
 use Rattle.brb.specs.Face.{stepResult}
 use Rattle.brb.specs.Recordings.{recordedResult}
 use Rattle.demands.specs.Unchanged.{unchanged, unchangedRecorded}
-use Rattle.demands.specs.First.{First, here, later, none}
+use Rattle.demands.specs.First.{First, here, later, none, Accepted, done, undefined, trap2, trap3, AnswersBy, refuses, accepts}
 
 -- ---- refusal-exact: the number is that of the first line of the table whose condition holds, and 0 if none does
 
-first : (lines : List (ℕ × Bool)) → First lines (firstThat lines)
+pub first : (lines : List (ℕ × Bool)) → First lines (firstThat lines)
 first [] = none
 first (line ∷ lines) = go (line .0) (line .1) (first lines)
   where
@@ -45,15 +45,9 @@ pub refusal-exact : (s : State) (o : Operation) (room : ℕ) → First (table s 
 unfolding refusalOf
 refusal-exact s o room = first (table s o room)
 
--- ---- refused-changes-nothing
+-- ---- the number of a step
 
--- What an accepted operation answers is no refusal: 0, 100, 102 or 103.
-data Accepted : ℕ → Type 0 where
-  done : Accepted 0
-  undefined : Accepted 100
-  trap2 : Accepted 102
-  trap3 : Accepted 103
-
+-- What an accepted operation answers is no refusal.
 ended : (undefined trap2 trap3 : Bool) → Accepted (returned (cond undefined Undefined (cond trap2 Trap2 (cond trap3 Trap3 Done))) .number)
 ended true b c = undefined
 ended false true c = trap2
@@ -82,6 +76,18 @@ accepted-number s (Read r) room = read-number (readOutcome s r) _ (access-number
 accepted-number s (Write r value) room = access-number s _ _
 accepted-number s Iall room = access-number s _ _
 accepted-number s Unknown room = done
+
+-- Which number a step answers: that of the first line of the table whose condition holds, else an accepted operation's.
+pub step-number : (s : State) (o : Operation) (cycles : ℕ) (room : List ℕ)
+    → AnswersBy (table s o (length room)) (returned (stepOf s o cycles room .answer) .number)
+unfolding accepted
+step-number s o cycles room = go (ℕ-discrete (refusalOf s o (length room)) 0)
+  where
+    go : Dec (refusalOf s o (length room) ≡ 0) → AnswersBy (table s o (length room)) (returned (stepOf s o cycles room .answer) .number)
+    go (yes h) = rw (accepted-step s o cycles room h) (accepts (rw h at (refusal-exact s o (length room))) (accepted-number s o room))
+    go (no h) = rw (refused-step s o cycles room h) (refuses (refusal-exact s o (length room)) h)
+
+-- ---- refused-changes-nothing
 
 no-refusal : {n : ℕ} → Accepted n → 1 ≤ n → n ≤ 7 → ⊥
 no-refusal done l u = omega arith

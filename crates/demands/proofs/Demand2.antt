@@ -9,12 +9,10 @@ use native.Mathlib.Decide.{ℕ-discrete}
 use borrow.Author.Tests.{ne-eqb}
 use lib.Dec.{eqb}
 use lib.ListN.{length, List·getD-eq-default}
-use Rattle.bits.specs.Bits.{part}
 use Rattle.bits.proofs.Cases.{never}
-use Rattle.count.specs.Count.{encoded}
 use Rattle.state.specs.declared.State.{State}
 use Rattle.state.specs.declared.Running.{Running}
-use Rattle.state.specs.Named.{PAUSED, predictionShown, BANK}
+use Rattle.state.specs.Named.{E2H, PAUSED, BANK, withRunning}
 use Rattle.room.specs.declared.Record.{Record}
 use Rattle.room.specs.declared.Effect.{Effect}
 use Rattle.room.specs.declared.Effect.the-variants.{Keep, Push, Clear, ResetTo}
@@ -22,9 +20,11 @@ use Rattle.room.specs.Room.{zeroRecord, records, numbered, needed, roomAfter}
 use Rattle.room.proofs.Laws.{sizeAfterEffect, length-records, records-pushed, records-cleared}
 use Rattle.region.specs.Region.{prohibited}
 use Rattle.event.specs.declared.Event.{Event}
-use Rattle.event.specs.Event.{valid, countUnknown, MPRED, packed, BRBINF, recordOf, becomesRecord, eventEffect}
+use Rattle.event.specs.Event.{valid, recordOf, becomesRecord, eventEffect}
+use Rattle.event.proofs.Laws.{Hidden, record-hidden, Captured, record-captured}
+use Rattle.answer.specs.declared.Answer.the-variants.{Done, Value}
 use Rattle.answer.specs.Answer.{isDone}
-use Rattle.access.specs.Access.{iallOutcome, shownRecord, shownNumber, registerValue}
+use Rattle.access.specs.Access.{readOutcome, iallOutcome, meant, shownRecord, shownNumber, registerValue}
 use Rattle.operation.specs.declared.Operation.{Operation}
 use Rattle.operation.specs.declared.Operation.the-variants.{Reset, Branch, Exception, Return, Platform, Read, Write, Iall, Unknown}
 use Rattle.operation.specs.Refusal.{notReset, refusalOf}
@@ -33,9 +33,12 @@ use Rattle.operation.proofs.Size.{Resets, is-reset, no-reset, resets, size-kept
 use Rattle.operation.proofs.Laws.{accepts, sized}
 use Rattle.change.specs.Change.{passed, effectOf}
 use Rattle.change.proofs.Laws.{of-effect}
-use Rattle.recorder.specs.Step.{accepted, stepOf}
+use Rattle.change.proofs.Occasions.{unchanged-occasion}
+use Rattle.running.specs.Ran.{ran}
+use Rattle.recorder.specs.Result.{together}
+use Rattle.recorder.specs.Step.{answerOf, accepted, stepOf}
 use Rattle.recorder.proofs.Laws.{accepted-step, refused-step}
-use Rattle.demands.specs.After.{recordsAfter, IsEvent, branch, exception, return, entered}
+use Rattle.demands.specs.After.{recordsAfter, IsEvent, branch, exception, return, entered, eventOf, IsAccess, read, write, iall}
 
 -- ---- inside-prohibited: an event wholly inside a prohibited region changes no record
 
@@ -66,26 +69,6 @@ inside-prohibited s {o} cycles room e source target = go (ℕ-discrete (refusalO
 
 -- ---- hidden-address-zero: a record holds 0 where the address of its prohibited side would stand
 
--- What BRBINF's fields read as.
-pub record Fields (ccu cc kind level mpred valid inf : ℕ) : Type 0 where
-  pub CCU : part 46 46 inf ≡ ccu % 2
-  pub CC : part 45 32 inf ≡ cc % 2 ^ 14
-  pub TYPE : part 13 8 inf ≡ kind % 2 ^ 6
-  pub EL : part 7 6 inf ≡ level % 2 ^ 2
-  pub MISPREDICTED : part 5 5 inf ≡ mpred % 2
-  pub VALID : part 1 0 inf ≡ valid % 2 ^ 2
-
-pub fields : (ccu cc kind level mpred valid : ℕ) → Fields ccu cc kind level mpred valid (packed ccu cc kind level mpred valid)
-fields ccu cc kind level mpred valid =
-    record {
-      CCU = omega arith;
-      CC = omega arith;
-      TYPE = omega arith;
-      EL = omega arith;
-      MISPREDICTED = omega arith;
-      VALID = omega arith;
-    }
-
 -- A record that was made is the one defined.
 made-record : (s : State) (r : Running) (wanted : Bool) (e : Event) (new : Record) → eventEffect s r wanted e ≡ Push new → new ≡ recordOf s r e
 made-record s r wanted e new h = go (becomesRecord s wanted e) h
@@ -94,44 +77,23 @@ made-record s r wanted e new h = go (becomesRecord s wanted e) h
     go true p = cc
     go false p = never (cc)
 
--- What is hidden of a record whose source or target side is prohibited: address, prediction, level.
-pub record Hidden (s : State) (left entered : ℕ) (new : Record) : Type 0 where
-  pub source : prohibited s left ≡ true → new .source ≡ 0
-  pub prediction : prohibited s left ≡ true → part 5 5 (new .inf) ≡ 0
-  pub target : prohibited s entered ≡ true → new .target ≡ 0
-  pub level : prohibited s entered ≡ true → part 7 6 (new .inf) ≡ 0
+-- A record that an operation made is the one defined for its event: what `event.proofs.Laws` says of that record, it says of this one.
+pub made-of : (s : State) {o : Operation} (r : Running) (e : IsEvent o) (new : Record) → effectOf s o r ≡ Push new → new ≡ recordOf s r (eventOf s e)
+unfolding effectOf
+made-of s r branch new h = made-record s r _ _ new h
+made-of s r exception new h = made-record s r _ _ new h
+made-of s r return new h = made-record s r _ _ new h
 
-hidden-prediction : (s : State) (e : Event) → prohibited s (e .left) ≡ true → MPRED s e ≡ 0
-unfolding MPRED
-hidden-prediction s e h = rw h (never-wanted (predictionShown s) (e .mispredicted) 0)
-
--- BRBINF's fields, of a record that was made.
-pub record-fields : (s : State) (r : Running) (e : Event)
-    → Fields (cond (countUnknown s r) 1 0) (cond (countUnknown s r) 0 (encoded (r .count))) (e .kind)
-    (cond (prohibited s (e .entered)) 0 (e .entered))
-    (MPRED s e)
-    (valid s e)
-    (recordOf s r e .inf)
-unfolding recordOf BRBINF
-record-fields s r e = fields _ _ _ _ _ _
-
-record-hidden : (s : State) (r : Running) (e : Event) → Hidden s (e .left) (e .entered) (recordOf s r e)
-unfolding recordOf
-record-hidden s r e =
-    record {
-      source = λ h. rw h;
-      prediction = λ h. record-fields s r e .MISPREDICTED ∙ rw (hidden-prediction s e h);
-      target = λ h. rw h;
-      level = λ h. record-fields s r e .EL ∙ rw h;
-    }
-
--- Only an event makes a record, and that record hides what is prohibited.
+-- It hides what is prohibited.
 pub hidden-address-zero : (s : State) {o : Operation} (r : Running) (e : IsEvent o) (new : Record) → effectOf s o r ≡ Push new
     → Hidden s (s .level) (entered s e) new
-unfolding effectOf
-hidden-address-zero s r branch new h = rw (made-record s r _ _ new h) (record-hidden s r _)
-hidden-address-zero s r exception new h = rw (made-record s r _ _ new h) (record-hidden s r _)
-hidden-address-zero s r return new h = rw (made-record s r _ _ new h) (record-hidden s r _)
+hidden-address-zero s r branch new h = rw (made-of s r branch new h) (record-hidden s r (eventOf s branch))
+hidden-address-zero s r exception new h = rw (made-of s r exception new h) (record-hidden s r (eventOf s exception))
+hidden-address-zero s r return new h = rw (made-of s r return new h) (record-hidden s r (eventOf s return))
+
+-- ... and has the event's own numbers where nothing is: addresses, level, prediction, type.
+pub captured : (s : State) {o : Operation} (r : Running) (e : IsEvent o) (new : Record) → effectOf s o r ≡ Push new → Captured s (eventOf s e) new
+captured s r e new h = rw (made-of s r e new h) (record-captured s r (eventOf s e))
 
 -- ---- newest: what an accepted operation does to the list of records
 
@@ -216,3 +178,44 @@ pub read-past : (s : State) (size m : ℕ) (room : List ℕ) → size ≤ m + 32
     → numbered (m + 32 * BANK s) (records size room) ≡ zeroRecord
 unfolding numbered
 read-past s size m room h = List·getD-eq-default (records size room) zeroRecord (rw (length-records size room) h)
+
+-- What a performed read answers.
+pub read-answer : (s : State) (r cycles : ℕ) (room : List ℕ) → refusalOf s (Read r) (length room) ≡ 0 → readOutcome s r ≡ Done
+    → stepOf s (Read r) cycles room .answer ≡ Value (registerValue s (records (s .size) room) (meant s r))
+unfolding accepted answerOf
+read-answer s r cycles room h done = rw (accepted-step s (Read r) cycles room h, done)
+
+-- A record register past the size answers 0, whatever BANK is: BRBINF, BRBSRC and BRBTGT are registers 32, 64 and 96 on.
+pub past-the-size : (s : State) (kind m cycles : ℕ) (room : List ℕ) → 1 ≤ kind → m < 32 → s .size ≤ m + 32 * BANK s
+    → refusalOf s (Read (32 * kind + m)) (length room) ≡ 0
+    → readOutcome s (32 * kind + m) ≡ Done
+    → stepOf s (Read (32 * kind + m)) cycles room .answer ≡ Value 0
+unfolding shownNumber shownRecord
+past-the-size s kind m cycles room low h past accept done =
+    let r : ℕ = 32 * kind + m in
+    let itself : meant s r ≡ r = rw (ne-eqb r 1 (omega arith)) (never-wanted (eqb (s .level) 2 && E2H s) 2 r) in
+    let number : r % 32 ≡ m = omega arith in
+    read-answer s r cycles room accept done
+    ∙ ap Value (rw (itself, record-register s (records (s .size) room) r (omega arith), number, read-past s (s .size) m room past) (all-zero (eqb (r / 32) 1) (eqb (r / 32) 2)))
+  where
+    all-zero : (a b : Bool) → _≡_ {A = ℕ} (cond a 0 (cond b 0 0)) 0
+    all-zero true b = refl
+    all-zero false true = refl
+    all-zero false false = refl
+
+-- ---- not-performed: an access that is not performed changes nothing but the count and its occasions
+
+-- The answer is how the access ended, the running count takes the cycles, an operation that began at a prohibited level makes the next count
+-- unknown, and every other number of the state and every number of the room is as it was.
+pub not-performed : (s : State) {o : Operation} (cycles : ℕ) (room : List ℕ) → refusalOf s o (length room) ≡ 0 → IsAccess o
+    → isDone (answerOf s o room) ≡ false
+    → stepOf s o cycles room
+    ≡ together (answerOf s o room) (withRunning (ran (s .running) (prohibited s (s .level)) cycles) s) room
+unfolding accepted changed effectOf roomAfter answerOf passed
+not-performed s {o} cycles room h a ended = rw (accepted-step s o cycles room h) (go a ended)
+  where
+    go : {o : Operation} → IsAccess o → isDone (answerOf s o room) ≡ false
+        → accepted s o cycles room ≡ together (answerOf s o room) (withRunning (ran (s .running) (prohibited s (s .level)) cycles) s) room
+    go read e = rw (unchanged-occasion s)
+    go (write {r = r}) e = rw (e, unchanged-occasion s)
+    go iall e = rw (e, unchanged-occasion s)

@@ -2,7 +2,7 @@
 use Prim.Native.Nat.{ℕ, _+_}
 use mathlib.Core.Path.{_≡_, refl}
 use mathlib.Core.Bool.{Bool, true, false}
-use mathlib.Core.List.{List, [], _∷_, _++_}
+use mathlib.Core.List.{List, [], _∷_, _++_, map}
 use lib.ListN.{length, replicate}
 use Rattle.state.specs.Named.{fresh}
 use Rattle.room.specs.declared.Record.{Record}
@@ -18,15 +18,16 @@ use Rattle.operation.specs.Refusal.{unknownCode, notReset, outsideList, wrongLe
 use Rattle.operation.specs.Changed.{changed}
 use Rattle.change.specs.Change.{occasion, passed, effectOf}
 use Rattle.recorder.specs.Step.{answerOf, accepted, stepOf}
-use Rattle.history.specs.History.{Timed, Machine, stepped, run, shown, notedStep, notedRun, history, notesOf, stretch, S, T, acceptedCycles, noReset, justMade}
+use Rattle.history.specs.History.{Timed, Machine, stepped, run, shown, CCU, CC, notedStep, notedRun, history, notesOf, stretch, S, T, acceptedCycles, justMade}
+use Rattle.history.specs.Events.{restarts, howMany, Between}
 use Rattle.history.proofs.Clock.{exact-time}
 
 abbrev operation : ℕ → ℕ → ℕ → ℕ → ℕ → ℕ → Timed
 operation code cycles a b c d = record { operation = operationOf code a b c d; cycles = cycles }
 
 -- Session S1's operations up to its first branch; then BRB IALL and a branch, whose record will be the oldest of the stretch.
-abbrev before : List Timed
-before =
+abbrev earlier : List Timed
+earlier =
     operation 0 0 8 0 0 0
     ∷ operation 4 0 49 0 0 0
     ∷ operation 6 0 1 10 0 0
@@ -35,12 +36,17 @@ before =
     ∷ operation 3 0 1 0 128 4096
     ∷ operation 1 300 0 0 4100 4112
     ∷ operation 7 5 0 0 0 0
-    ∷ operation 1 295 8 1 4112 4096
     ∷ []
 
+abbrev before : List Timed
+before = earlier ++ (operation 1 295 8 1 4112 4096 ∷ [])
+
 -- A branch, a branch of no such type (refused 4), a read, and a branch, whose record is the newest.
+abbrev between : List Timed
+between = operation 1 300 0 0 4100 4112 ∷ operation 1 1000 7 0 4100 4112 ∷ operation 5 13 32 0 0 0 ∷ []
+
 abbrev after : List Timed
-after = operation 1 300 0 0 4100 4112 ∷ operation 1 1000 7 0 4100 4112 ∷ operation 5 13 32 0 0 0 ∷ operation 1 500 0 0 4100 4112 ∷ []
+after = between ++ (operation 1 500 0 0 4100 4112 ∷ [])
 
 abbrev session : List Timed
 session = before ++ after
@@ -55,10 +61,66 @@ seen = shown (run start session)
 -- What `exact-time` assumes holds of the two parts of the session.
 pub closed-run : (_≡_ {A = Bool × Bool × ℕ × ℕ × ℕ} (stretch seen 0 2, stretch seen 0 3, S seen 0 2, T (notesOf start session) 0 2, acceptedCycles (run start before) after)
     (true, false, 812, 813, 813))
-    × (noReset after ≡ true) × justMade (history start before) × justMade (history start session)
+    × (howMany restarts (run start before) after ≡ 0) × justMade (history start before) × justMade (history start session)
     × (length (notesOf start session) ≡ 2 + length (notesOf start before))
-unfolding bitLength exponent mantissa encoded countOf decoded unavailable sound records numbered pushed cleared roomAfter enabled prohibited filterBit passesFilter controlled valid countUnknown MPRED BRBINF recordOf becomesRecord nBit trapped2 outcome readOutcome writeOutcome iallOutcome registerWritten operationOf unknownCode notReset outsideList wrongLevel roomTooShort refusalOf changed occasion passed effectOf answerOf accepted stepOf stepped run notedStep notedRun stretch S acceptedCycles noReset
+unfolding bitLength exponent mantissa encoded countOf decoded unavailable sound records numbered pushed cleared roomAfter enabled prohibited filterBit passesFilter controlled valid countUnknown MPRED BRBINF recordOf becomesRecord nBit trapped2 outcome readOutcome writeOutcome iallOutcome registerWritten operationOf unknownCode notReset outsideList wrongLevel roomTooShort refusalOf changed occasion passed effectOf answerOf accepted stepOf stepped run notedStep notedRun stretch S acceptedCycles howMany
 closed-run = (refl, refl, refl, refl, refl)
 
 closed-time : T (notesOf start session) 0 2 ≡ acceptedCycles (run start before) after
 closed-time = exact-time start before after 2 (closed-run .1) (closed-run .2) (closed-run .3) (closed-run .4)
+
+-- The same stretch is records 1 to 3 of a run that goes on, with one record more: what `demand-3-exact` says there is of the same two events.
+abbrev more : List Timed
+more = operation 1 40 0 0 4100 4112 ∷ operation 5 7 32 0 0 0 ∷ []
+
+abbrev longer : List Timed
+longer = before ++ (after ++ more)
+
+pub closed-stretch : stretch (shown (run start longer)) 1 2 ≡ true
+unfolding bitLength exponent mantissa encoded countOf decoded unavailable sound records numbered pushed cleared roomAfter enabled prohibited filterBit passesFilter controlled valid countUnknown MPRED BRBINF recordOf becomesRecord nBit trapped2 outcome readOutcome writeOutcome iallOutcome registerWritten operationOf unknownCode notReset outsideList wrongLevel roomTooShort refusalOf changed occasion passed effectOf answerOf accepted stepOf stepped run notedStep notedRun stretch S acceptedCycles howMany
+closed-stretch = refl
+
+pub closed-between : Between start longer 1 2
+unfolding bitLength exponent mantissa encoded countOf decoded unavailable sound records numbered pushed cleared roomAfter enabled prohibited filterBit passesFilter controlled valid countUnknown MPRED BRBINF recordOf becomesRecord nBit trapped2 outcome readOutcome writeOutcome iallOutcome registerWritten operationOf unknownCode notReset outsideList wrongLevel roomTooShort refusalOf changed occasion passed effectOf answerOf accepted stepOf stepped run notedStep notedRun stretch S acceptedCycles howMany
+closed-between =
+    record {
+      before = before;
+      middle = after;
+      after = more;
+      whole = refl;
+      oldest = record {
+        event = record { earlier = earlier; event = operation 1 295 8 1 4112 4096; ends = refl; makes = (refl, refl) };
+        moved = refl;
+        kept = refl;
+      };
+      newest = record {
+        event = record { earlier = before ++ between; event = operation 1 500 0 0 4100 4112; ends = refl; makes = (refl, refl) };
+        moved = refl;
+        kept = refl;
+      };
+    }
+
+-- Each of the listed occasions, and after it a record whose count is known again: PAUSED set and cleared; counting turned off and on; an
+-- exception to EL3, which is prohibited, and back.
+abbrev occasions : List Timed
+occasions =
+    before
+    ++ (operation 6 1 3 65664 0 0
+    ∷ operation 6 1 3 65536 0 0
+    ∷ operation 1 10 0 0 4100 4112
+    ∷ operation 1 20 0 0 4100 4112
+    ∷ operation 6 1 1 2 0 0
+    ∷ operation 6 1 1 10 0 0
+    ∷ operation 1 30 0 0 4100 4112
+    ∷ operation 1 40 0 0 4100 4112
+    ∷ operation 2 5 0x22 3 4100 4112
+    ∷ operation 3 6 1 0 4100 4112
+    ∷ operation 1 50 0 0 4100 4112
+    ∷ operation 1 60 0 0 4100 4112
+    ∷ [])
+
+-- CCU and CC of the records, newest first.
+pub closed-occasions : map {B = ℕ × ℕ} (λ (r : Record). (CCU r, CC r)) (shown (run start occasions))
+    ≡ (0, 60) ∷ (1, 0) ∷ (0, 40) ∷ (1, 0) ∷ (0, 20) ∷ (1, 0) ∷ (0, 300) ∷ (0, 0) ∷ []
+unfolding bitLength exponent mantissa encoded countOf decoded unavailable sound records numbered pushed cleared roomAfter enabled prohibited filterBit passesFilter controlled valid countUnknown MPRED BRBINF recordOf becomesRecord nBit trapped2 outcome readOutcome writeOutcome iallOutcome registerWritten operationOf unknownCode notReset outsideList wrongLevel roomTooShort refusalOf changed occasion passed effectOf answerOf accepted stepOf stepped run notedStep notedRun stretch S acceptedCycles howMany
+closed-occasions = refl

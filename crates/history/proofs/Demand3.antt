@@ -96,7 +96,7 @@ good (reset {m = m} {size = size} {v1p1 = v1p1} {list = list} e) =
     let room : needed size ≤ length (m .room) = accepts-if (m .state) (Reset size v1p1) (length (m .room)) e .room-enough in
     good-run _ list (rw e (record { timely = began; held = rw (records-cleared size (m .room) room) (held-cleared size []) }))
 
-plain : (m : Machine) (list : List Timed) → history m list .machine ≡ run m list
+pub plain : (m : Machine) (list : List Timed) → history m list .machine ≡ run m list
 plain m list = forgotten (record { machine = m; clock = 0; notes = [] }) list
 
 -- A valid place holds exactly the record noted there; in particular, there is a note.

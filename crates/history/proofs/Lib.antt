@@ -1,6 +1,9 @@
 pub mod Notes
 pub mod Allowed
 pub mod Demand3
+pub mod Counts
 pub mod Clock
+pub mod Exact
+pub mod Unknown
 pub mod ClosedRun
 pub mod Sound

@@ -95,7 +95,7 @@ Held list notes = (i : ℕ) → isValid (numbered i list) ≡ true → numbered 
 pub zero-invalid : {r : Record} → r ≡ zeroRecord → isValid r ≡ true → ⊥
 zero-invalid e v = let z : _≡_ {A = ℕ} 0 1 = cc in omega arith
 
-numbered-zeros : (n i : ℕ) → numbered i (replicate n zeroRecord) ≡ zeroRecord
+pub numbered-zeros : (n i : ℕ) → numbered i (replicate n zeroRecord) ≡ zeroRecord
 unfolding numbered
 numbered-zeros zero i = refl
 numbered-zeros (suc n) zero = refl
@@ -104,12 +104,16 @@ numbered-zeros (suc n) (suc i) = numbered-zeros n i
 pub held-cleared : (n : ℕ) (notes : List Note) → Held (replicate n zeroRecord) notes
 held-cleared n notes i v = absurd (zero-invalid (numbered-zeros n i) v)
 
+-- A record behind a new one is the one that had the number before; past the end there is none.
+pub moved-up : (list : List Record) (n i : ℕ) (new : Record) → isValid (numbered (suc i) (new ∷ take n list)) ≡ true
+    → numbered (suc i) (new ∷ take n list) ≡ numbered i list
+unfolding numbered
+moved-up list n i new v =
+    ⊎-elim (λ (g : i < n). getD-take n list i zeroRecord g)
+    (λ (g : n ≤ i). absurd (zero-invalid (List·getD-eq-default (take n list) zeroRecord (simp length-take (omega arith))) v)) (below-or-not i n)
+
 pub held-pushed : (list : List Record) (notes : List Note) (n now : ℕ) (new : Record) → Held list notes
     → Held (new ∷ take n list) (record { time = now; made = new } ∷ notes)
 unfolding numbered
 held-pushed list notes n now new h zero v = refl
-held-pushed list notes n now new h (suc i) v =
-    ⊎-elim
-    (λ (g : i < n). let e = getD-take n list i zeroRecord g in e ∙ h i (rw e at v))
-    (λ (g : n ≤ i). absurd (zero-invalid (List·getD-eq-default (take n list) zeroRecord (simp length-take (omega arith))) v))
-    (below-or-not i n)
+held-pushed list notes n now new h (suc i) v = let e = moved-up list n i new v in e ∙ h i (rw e at v)

@@ -20,7 +20,6 @@ use Rattle.room.specs.declared.Effect.the-variants.{Keep, Push, Clear, ResetTo}
 use Rattle.room.specs.Room.{zeroRecord, records, numbered}
 use Rattle.operation.specs.declared.Operation.{Operation}
 use Rattle.operation.specs.declared.Operation.the-variants.{Reset}
-use Rattle.operation.specs.Operation.{codeOf}
 use Rattle.operation.specs.Refusal.{refusalOf}
 use Rattle.operation.specs.Changed.{changed}
 use Rattle.change.specs.Change.{passed, effectOf}
@@ -167,14 +166,10 @@ S list i (suc n) = count (numbered i list) + S list (suc i) n
 abbrev pub T : List Note → ℕ → ℕ → ℕ
 T notes i n = note i notes .time - note (i + n) notes .time
 
--- The same by the operations alone, without clock or notes: the cycles of the accepted ones of a sequence that has no reset in it.
+-- The same by the operations alone, without clock or notes: the cycles of the accepted ones.
 unfoldable pub acceptedCycles : Machine → List Timed → ℕ
 acceptedCycles m [] = 0
 acceptedCycles m (t ∷ list) = cond (isAccepted m t) (t .cycles) 0 + acceptedCycles (stepped m t) list
-
-unfoldable pub noReset : List Timed → Bool
-noReset [] = true
-noReset (t ∷ list) = not (eqb (codeOf (t .operation)) 0) && noReset list
 
 -- No cycles have passed since the newest record was made, as right after its event: its note has the present time.
 abbrev pub justMade : Noted → Type 0

@@ -1,13 +1,13 @@
 -- A state that is stored is the state that is loaded, and lent numbers into which their own state is stored are as they were.
 use Prim.Native.Nat.{ℕ, _≤_, _<_}
 use mathlib.Core.Path.{_≡_, sym, _∙_}
-use mathlib.Core.List.{List}
+use mathlib.Core.List.{List, _++_}
 use mathlib.Core.Bool.{true, false}
 use mathlib.Core.Logic.{_⊎_, inl, inr, ⊎-elim}
 use native.Mathlib.Omega.{arith}
 use borrow.Author.Tests.{lt-leb, le-leb}
 use lib.Dec.{leb}
-use lib.ListN.{length}
+use lib.ListN.{length, drop}
 use lib.Seq.{sets-eq, set-getD}
 use Rattle.bits.proofs.Cases.{below-or-not, either, never}
 use Rattle.state.specs.declared.State.{State}
@@ -50,3 +50,17 @@ held w s e = go (either (leb stateNumbers (length w)))
 -- Storing what was loaded leaves the lent numbers as they were.
 pub kept : (w : List ℕ) (s : State) → loaded w ≡ Held s → stored s w ≡ w
 kept w s e = rw (held w s e .0) (stored-loaded w)
+
+-- A sound state that is stored is loaded again, where the lent numbers are enough.
+pub loaded-stored : (s : State) (w : List ℕ) → stateNumbers ≤ length w → sound s ≡ true → loaded (stored s w) ≡ Held s
+unfolding loaded judged stored
+loaded-stored s w enough is-sound =
+    rw (le-leb stateNumbers (length w) enough, le-leb stateNumbers (length (wordsOf s ++ drop stateNumbers w)) (omega arith), is-sound)
+
+-- What is stored over a stored state is all that is stored.
+pub stored-again : (s t : State) (w : List ℕ) → stored t (stored s w) ≡ stored t w
+unfolding stored
+stored-again s t w =
+    ⊎-elim (λ (few : length w < 9). rw (lt-leb 9 (length w) few, lt-leb 9 (length w) few))
+    (λ (enough : 9 ≤ length w). rw (le-leb 9 (length w) enough, le-leb 9 (length (wordsOf s ++ drop 9 w)) (omega arith)))
+    (below-or-not (length w) 9)

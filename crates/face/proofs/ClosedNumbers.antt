@@ -1,0 +1,56 @@
+-- Closed: each number is answered for some input, by the step and by the recorded step.
+use Prim.Native.Nat.{ℕ}
+use mathlib.Core.Path.{_≡_, refl}
+use mathlib.Core.List.{List, [], _∷_}
+use lib.ListN.{replicate}
+use Rattle.number.specs.Number.{numberIn, numberAt}
+use Rattle.state.specs.Sound.{unavailable, sound}
+use Rattle.state.specs.Words.{loaded, judged, stored}
+use Rattle.room.specs.Room.{cleared, roomAfter}
+use Rattle.region.specs.Region.{enabled, prohibited}
+use Rattle.access.specs.Access.{nBit, trapped2, outcome, readOutcome, writeOutcome, registerWritten}
+use Rattle.operation.specs.Operation.{operationOf}
+use Rattle.operation.specs.Refusal.{unknownCode, notReset, outsideList, wrongLevel, roomTooShort, refusalOf}
+use Rattle.operation.specs.Changed.{changed}
+use Rattle.change.specs.Change.{occasion, passed, effectOf}
+use Rattle.recorder.specs.Step.{answerOf, accepted, stepOf}
+use Rattle.recorder.specs.Lent.{lentStep}
+use Rattle.recording.specs.Recording.{fieldCount, numbersAt, operationAt}
+use Rattle.brb.specs.Face.{stepResult}
+use Rattle.brb.specs.Recordings.{recordedResult}
+
+-- The nine numbers of a state with a level, size 8 and a P.
+abbrev words : ℕ → ℕ → List ℕ
+words level p = level ∷ 8 ∷ 0 ∷ p ∷ 0 ∷ 0 ∷ 0 ∷ 0 ∷ 1 ∷ []
+
+abbrev fresh : List ℕ
+fresh = replicate 9 0
+
+-- The number of one step without cycles, in a room of so many zeros.
+abbrev number : List ℕ → ℕ → ℕ → ℕ → ℕ → ℕ
+number state room code a b = stepResult state code 0 a b 0 0 (replicate room 0) .answer .number
+
+-- The number of one recorded step.
+abbrev recorded : List ℕ → List ℕ → ℕ
+recorded state bytes = recordedResult state [] bytes 0 .answer .number
+
+-- 7 for too few numbers and for a level 4; 2 for code 8; 3 for BRB IALL before a reset; 4 for the size 9; 5 for an exception to EL0; 6 for
+-- too short a room. Accepted: a reset; a write at EL0; a write at EL1 that nBRBCTL traps; one that SBRBE 0 traps.
+pub each-number : number [] 24 0 8 0 ∷ number (words 4 0) 24 0 8 0 ∷ number fresh 24 8 0 0 ∷ number fresh 24 7 0 0 ∷ number fresh 24 0 9 0
+    ∷ number (words 3 0) 24 2 0x22 0
+    ∷ number fresh 23 0 8 0
+    ∷ number fresh 24 0 8 0
+    ∷ number (words 0 1) 24 6 1 0
+    ∷ number (words 1 0x101) 24 6 1 0
+    ∷ number (words 1 1) 24 6 1 0
+    ∷ []
+    ≡ 7 ∷ 7 ∷ 2 ∷ 3 ∷ 4 ∷ 5 ∷ 6 ∷ 0 ∷ 100 ∷ 102 ∷ 103 ∷ []
+unfolding loaded judged stored unavailable sound cleared roomAfter enabled prohibited nBit trapped2 outcome readOutcome writeOutcome registerWritten operationOf unknownCode notReset outsideList wrongLevel roomTooShort refusalOf changed occasion passed effectOf answerOf accepted stepOf lentStep stepResult
+each-number = refl
+
+-- 7 with nothing read; 1 at the end of the input; 2 for code 8, whose cycles are not there; 1 for code 0 without cycles; 3 for BRB IALL
+-- before a reset.
+pub each-recorded : recorded [] [] ∷ recorded fresh [] ∷ recorded fresh (8 ∷ []) ∷ recorded fresh (0 ∷ []) ∷ recorded fresh (7 ∷ 0 ∷ []) ∷ []
+    ≡ 7 ∷ 1 ∷ 2 ∷ 1 ∷ 3 ∷ []
+unfolding numberIn numberAt loaded judged stored unavailable sound operationOf unknownCode notReset outsideList wrongLevel roomTooShort refusalOf changed stepOf fieldCount numbersAt operationAt recordedResult
+each-recorded = refl

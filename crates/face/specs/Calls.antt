@@ -1,0 +1,80 @@
+-- Sequences of calls on one lent memory, as a host makes them, and the sequence of operations that they stand for.
+use Prim.Native.Nat.{ℕ, zero, suc}
+use mathlib.Core.List.{List, [], _∷_}
+use Rattle.answer.specs.declared.Returned.{Returned}
+use Rattle.state.specs.Parts.{stateOf}
+use Rattle.state.specs.Words.{stored}
+use Rattle.room.specs.declared.Record.{Record}
+use Rattle.room.specs.Room.{records}
+use Rattle.operation.specs.Operation.{operationOf}
+use Rattle.recorder.specs.Result.{Result, together}
+use Rattle.recording.specs.declared.Numbers.{Numbers}
+use Rattle.recording.specs.declared.Reading.{Reading}
+use Rattle.recording.specs.Recording.{operationAt}
+use Rattle.brb.specs.declared.BrbRecorded.{BrbRecorded}
+use Rattle.brb.specs.Face.{stepResult}
+use Rattle.brb.specs.Recordings.{recordedResult}
+use Rattle.history.specs.History.{Timed, Machine}
+
+-- What a host lends: the state's numbers, and the room.
+pub record Lent : Type 0 where
+  pub words : List ℕ
+  pub room : List ℕ
+
+-- What one call of `brb_step` with these six numbers answers and leaves.
+abbrev pub stepCall : Lent → Numbers → Result Returned (List ℕ)
+stepCall x n = stepResult (x .words) (n .code) (n .cycles) (n .a) (n .b) (n .c) (n .d) (x .room)
+
+-- What one call of `brb_step_recorded` on these bytes at this position answers and leaves.
+abbrev pub recordedCall : List ℕ → Lent → ℕ → Result BrbRecorded (List ℕ)
+recordedCall bytes x at = recordedResult (x .words) (x .room) bytes at
+
+-- The lent memory after a call.
+abbrev pub left : {A : Type 0} → Result A (List ℕ) → Lent
+left r = record { words = r .state; room = r .room }
+
+-- One call of `brb_step` after another on one lent memory.
+unfoldable pub calls : Lent → List Numbers → Lent
+calls x [] = x
+calls x (n ∷ list) = calls (left (stepCall x n)) list
+
+-- A position in a recording.
+pub record Position : Type 0 where
+  pub bytes : List ℕ
+  pub at : ℕ
+
+-- One call of `brb_step_recorded` after another on one lent memory, each at any position of any recording.
+unfoldable pub recordedCalls : Lent → List Position → Lent
+recordedCalls x [] = x
+recordedCalls x (p ∷ list) = recordedCalls (left (recordedCall (p .bytes) x (p .at))) list
+
+-- So many calls of it on one recording, each at the position that the call before answered.
+unfoldable pub callsThrough : ℕ → List ℕ → Lent → ℕ → Lent
+callsThrough zero bytes x at = x
+callsThrough (suc k) bytes x at = callsThrough k bytes (left (recordedCall bytes x at)) (recordedCall bytes x at .answer .next)
+
+-- What was read, in front of some operations: nothing where reading was refused.
+abbrev pub withRead : Reading → List Numbers → List Numbers
+withRead (Reading.Operation n next) list = n ∷ list
+withRead (Reading.Refused number place) list = list
+
+-- The operations that stand at some positions.
+unfoldable pub operationsAt : List Position → List Numbers
+operationsAt [] = []
+operationsAt (p ∷ list) = withRead (operationAt (p .bytes) (p .at)) (operationsAt list)
+
+-- The operation, with its cycles, that six numbers stand for.
+abbrev pub timed : Numbers → Timed
+timed n = record { operation = operationOf (n .code) (n .a) (n .b) (n .c) (n .d); cycles = n .cycles }
+
+-- Lent memory that holds the machine: its state in these numbers, and its room.
+abbrev pub holding : List ℕ → Machine → Lent
+holding words m = record { words = stored (m .state) words; room = m .room }
+
+-- A call's result, with the position where reading goes on.
+abbrev pub withNext : ℕ → Result Returned (List ℕ) → Result BrbRecorded (List ℕ)
+withNext next r = together (record { number = r .answer .number; value = r .answer .value; next = next }) (r .state) (r .room)
+
+-- The records that lent memory holds, newest first, as many as the size that it holds.
+abbrev pub recordsIn : Lent → List Record
+recordsIn x = records (stateOf (x .words) .size) (x .room)
