@@ -1,11 +1,21 @@
 //! The programs of `target/bin` beside the model. They are built with the proofs; where one is not there, its tests say so
 //! and pass.
 
+pub mod bad;
+pub mod edges;
+mod listed;
+pub mod message;
+mod packed;
 mod program;
+pub mod spelling;
+pub mod wrong;
 
+pub use listed::Listed;
+pub use packed::Packed;
 pub use program::{Program, Way};
 
-use crate::Random;
+use crate::shrink::shrink;
+use crate::{Case, Random};
 
 /// A program that reads in pieces has a piece's end here.
 pub const PIECE: usize = 65_536;
@@ -29,4 +39,17 @@ pub fn first_difference(printed: &[u8], expected: &[u8]) -> Option<String> {
             |text: Option<&[u8]>| text.map(String::from_utf8_lossy).map_or("nothing".into(), |t| format!("{t:?}"));
         format!("line {}: program {}, model {}", line + 1, shown(printed), shown(expected))
     })
+}
+
+/// Every way of getting an input, with pieces for one of this length.
+pub fn every_way(random: &mut Random, length: usize) -> [Way; 3] {
+    [Way::File, Way::Input, pieces(random, length)]
+}
+
+/// The shrunk case and how the program and the model differ on it; none where they agree.
+pub fn disagreement<C: Case>(case: C, how: impl Fn(&C) -> Option<String>) -> Option<String> {
+    how(&case)?;
+    let shrunk = shrink(case, |simpler| how(simpler).is_some());
+    let how = how(&shrunk).unwrap_or_default();
+    Some(format!("{shrunk}\n  {how}"))
 }
