@@ -1,6 +1,5 @@
-use super::{first_difference, message, Program, Way};
+use super::{first_difference, message, with_chunks_dropped, Program, Way};
 use crate::recording::hex;
-use crate::shrink::with_part_dropped;
 use crate::Case;
 use model::lines::Form;
 use model::{Document01, Lines, Recordings};
@@ -52,7 +51,7 @@ impl Case for Listed {
         let chunks = self.chunks();
         let fewer: Vec<Vec<u8>> = match chunks[..] {
             [only] => zeroed(only).collect(),
-            _ => with_part_dropped(&chunks).map(|chunks| chunks.concat()).collect(),
+            _ => with_chunks_dropped(&chunks),
         };
         Box::new(fewer.into_iter().map(|bytes| Listed { bytes, ..*self }))
     }

@@ -6,6 +6,7 @@ pub mod edges;
 mod listed;
 pub mod message;
 mod packed;
+pub mod planted;
 mod program;
 pub mod spelling;
 pub mod wrong;
@@ -14,7 +15,7 @@ pub use listed::Listed;
 pub use packed::Packed;
 pub use program::{Program, Way};
 
-use crate::shrink::shrink;
+use crate::shrink::{shrink, with_part_dropped};
 use crate::{Case, Random};
 
 /// A program that reads in pieces has a piece's end here.
@@ -52,4 +53,12 @@ pub fn disagreement<C: Case>(case: C, how: impl Fn(&C) -> Option<String>) -> Opt
     let shrunk = shrink(case, |simpler| how(simpler).is_some());
     let how = how(&shrunk).unwrap_or_default();
     Some(format!("{shrunk}\n  {how}"))
+}
+
+/// How many simpler cases are tried of one: each is a run of the program, and the boldest come first.
+const TRIED: usize = 64;
+
+/// An input that is made of chunks, with some of them taken out.
+fn with_chunks_dropped(chunks: &[&[u8]]) -> Vec<Vec<u8>> {
+    with_part_dropped(chunks).take(TRIED).map(|chunks| chunks.concat()).collect()
 }

@@ -1,6 +1,5 @@
-use super::{message, Program, Way};
+use super::{message, with_chunks_dropped, Program, Way};
 use crate::recording::hex;
-use crate::shrink::with_part_dropped;
 use crate::Case;
 use model::Notation;
 use std::fmt;
@@ -8,6 +7,8 @@ use std::process::Output;
 
 /// So many bytes around a difference are shown.
 const SHOWN: usize = 24;
+/// So few lines are shrunk by their words.
+const FEW_LINES: usize = 3;
 
 /// A text for `pack`.
 #[derive(Clone, Debug, PartialEq, Eq)]
@@ -32,13 +33,13 @@ impl Packed {
         bytes.or_else(|| message::difference(&output.stderr, "line", packed.wrong))
     }
 
-    /// Its lines; of a single line the words and what stands between them.
+    /// Its lines; of a few lines the words and what stands between them.
     fn chunks(&self) -> Vec<&[u8]> {
         let lines: Vec<&[u8]> = self.text.split_inclusive(|&byte| byte == b'\n').collect();
-        match lines[..] {
-            [line] => line.chunk_by(|one, next| one.is_ascii_alphanumeric() && next.is_ascii_alphanumeric()).collect(),
-            _ => lines,
+        if lines.len() > FEW_LINES {
+            return lines;
         }
+        self.text.chunk_by(|one, next| one.is_ascii_alphanumeric() && next.is_ascii_alphanumeric()).collect()
     }
 }
 
@@ -56,8 +57,7 @@ fn first_byte(written: &[u8], expected: &[u8]) -> Option<String> {
 
 impl Case for Packed {
     fn simpler(&self) -> Box<dyn Iterator<Item = Self> + '_> {
-        let fewer: Vec<Vec<u8>> = with_part_dropped(&self.chunks()).map(|chunks| chunks.concat()).collect();
-        Box::new(fewer.into_iter().map(Packed::new))
+        Box::new(with_chunks_dropped(&self.chunks()).into_iter().map(Packed::new))
     }
 }
 

@@ -5,50 +5,23 @@ use crate::recording::make;
 use crate::{Call, Random};
 use model::own_fields;
 
-/// Words that are no numbers.
-const NO_NUMBERS: [&[u8]; 36] = [
-    b"x",
-    b"0x",
-    b"0X",
-    b"12a",
-    b"0xg",
-    b"0xG",
-    b"-1",
-    b"+1",
-    b"-0",
-    b"1.0",
-    b"1e3",
-    b"1_000",
-    b"1,",
-    b"0b1",
-    b"0o7",
-    b"ff",
-    b"FF",
-    b"a",
-    b"0x0x1",
-    b"x10",
-    b"X10",
-    b"00x1",
-    b"0x-1",
-    b"0x+1",
-    b"0x 1",
-    b"0x_1",
-    b"10h",
-    b"$10",
-    b"'1'",
-    b"\"1\"",
-    b"1\x0B2",
-    b"1\x0C2",
-    b"\x00",
-    b"1\x00",
-    b"\xC2\xB2",
-    b"\xFF",
-];
+/// Words that are no numbers, and others that are no text either.
+const NO_NUMBERS: &str =
+    "x 0x 0X 12a 0xg 0xG -1 +1 -0 1.0 1e3 1_000 1, 1; 0b1 0o7 ff FF a 0x0x1 x10 X10 00x1 0x-1 0x+1 \
+                          0x_1 10h $10 '1' \"1\" ; -";
+const ODD: [&[u8]; 8] = [b"1\x0B", b"\x0C1", b"1\x0C", b"\x00", b"1\x00", b"\xC2\xB2", b"1\xC2\xA0", b"\xFF"];
+/// Bytes that are no white space and end nothing.
+const NO_BLANKS: [u8; 11] = *b"\x00\x0B\x0C\x1A\x85\xA0,;_-\\";
 
 /// What is wrong with an operation.
 #[derive(Clone, Copy, Debug, PartialEq, Eq)]
 pub enum Kind {
+    /// A word is no number.
     NoNumber,
+    /// A word that is no number stands after all numbers, or hangs on the last.
+    Followed,
+    /// What stands between two numbers is no white space.
+    Joined,
     TooLarge,
     UnknownCode,
     TooFew,
@@ -56,11 +29,12 @@ pub enum Kind {
 }
 
 impl Kind {
-    pub const ALL: [Kind; 5] = [Kind::NoNumber, Kind::TooLarge, Kind::UnknownCode, Kind::TooFew, Kind::TooMany];
+    pub const ALL: [Kind; 7] =
+        [Kind::NoNumber, Kind::Followed, Kind::Joined, Kind::TooLarge, Kind::UnknownCode, Kind::TooFew, Kind::TooMany];
 }
 
-/// Every wrong word at every place of every operation would be many; so many cases try each word and each count once.
-pub const CASES: usize = NO_NUMBERS.len();
+/// So many cases of a kind try each wrong word, each code and each count of numbers.
+pub const CASES: usize = 40;
 
 /// A text with a wrong operation after some others and before some others. The case chooses among what is wrong.
 pub fn text(random: &mut Random, kind: Kind, case: usize) -> Vec<u8> {
@@ -83,24 +57,43 @@ fn others(random: &mut Random, style: Style) -> Vec<u8> {
 
 /// The words of an operation that is wrong in this way.
 fn words(random: &mut Random, kind: Kind, case: usize, style: Style) -> Vec<Vec<u8>> {
-    let code = case as u64 % 8;
-    let own = 2 + own_fields(code).expect("a known code");
-    let mut numbers: Vec<u64> = (0..own).map(|_| make::any_number(random)).collect();
-    numbers[0] = code;
-    match kind {
-        Kind::UnknownCode => numbers = unknown_code(random, case),
-        Kind::TooFew => numbers.truncate(1 + random.below(own as u64 - 1) as usize),
-        Kind::TooMany => numbers.extend((0..=case / 8 % 5).map(|_| make::any_number(random))),
-        Kind::NoNumber | Kind::TooLarge => {}
-    }
+    let numbers = numbers(random, kind, case);
     let mut words: Vec<Vec<u8>> = numbers.iter().map(|&number| spelling::word(random, number, style)).collect();
-    let place = random.below(words.len() as u64) as usize;
+    let last = words.len() - 1;
+    // Seldom the code: a wrong one could hide that the word was taken.
+    let place = if random.percent(10) { 0 } else { random.below(last as u64) as usize + 1 };
     match kind {
-        Kind::NoNumber => words[place] = NO_NUMBERS[case].to_vec(),
+        Kind::NoNumber => words[place] = no_number(case),
+        Kind::Followed if random.percent(50) => words.push(no_number(case)),
+        Kind::Followed => words[last].extend(no_number(case)),
+        Kind::Joined => {
+            let joined = [&words[place.max(1) - 1][..], &[random.one_of(&NO_BLANKS)], &words[place.max(1)]].concat();
+            words.splice(place.max(1) - 1..=place.max(1), [joined]);
+        }
         Kind::TooLarge => words[place] = too_large(random, case, numbers[place]),
-        _ => {}
+        Kind::UnknownCode | Kind::TooFew | Kind::TooMany => {}
     }
     words
+}
+
+/// Its numbers, wrong in this way as far as it is numbers that are wrong.
+fn numbers(random: &mut Random, kind: Kind, case: usize) -> Vec<u64> {
+    let code = case as u64 % 8;
+    let own = 2 + own_fields(code).expect("a known code");
+    let count = match kind {
+        Kind::UnknownCode => return unknown_code(random, case),
+        Kind::TooFew => 1 + random.below(own as u64 - 1) as usize,
+        Kind::TooMany => own + 1 + case / 8,
+        _ => own,
+    };
+    let others = (1..count).map(|_| make::any_number(random));
+    [code].into_iter().chain(others).collect()
+}
+
+fn no_number(case: usize) -> Vec<u8> {
+    let words: Vec<&[u8]> = NO_NUMBERS.split(' ').map(str::as_bytes).chain(ODD).collect();
+    assert_eq!(words.len(), CASES, "each word has its case");
+    words[case].to_vec()
 }
 
 /// A code above 7, often one whose lowest bits are a code, with as many numbers as that code has or others.
