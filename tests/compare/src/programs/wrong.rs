@@ -64,6 +64,8 @@ fn words(random: &mut Random, kind: Kind, case: usize, style: Style) -> Vec<Vec<
     let place = if random.percent(10) { 0 } else { random.below(last as u64) as usize + 1 };
     match kind {
         Kind::NoNumber => words[place] = no_number(case),
+        // Digits and an x could make another number of the last one.
+        Kind::Followed if no_number(case)[0].is_ascii_alphanumeric() => words.push(no_number(case)),
         Kind::Followed if random.percent(50) => words.push(no_number(case)),
         Kind::Followed => words[last].extend(no_number(case)),
         Kind::Joined => {
