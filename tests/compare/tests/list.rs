@@ -68,10 +68,10 @@ fn a_recording_of_many_operations() {
     let Some(list) = List::of_test("list of many operations") else { return };
     let mut random = Random::new(seed::of_test("list of many operations", seed::from_clock));
     let recording = Recording::of_any(&mut random, MANY);
-    list.check(&recording.bytes, &every_way(&mut random, recording.bytes.len()));
+    list.check(&recording.bytes, &[Way::File, pieces(&mut random, recording.bytes.len())]);
     let bad = recording.numbers().last().expect("there is a number").start;
     let damaged = [&recording.bytes[..bad], &[0x80, 0x00]].concat();
-    list.check(&damaged, &[pieces(&mut random, damaged.len())]);
+    list.check_form(&damaged, &Way::Input, Form::Readable);
     say(&format!("list of many operations: {MANY} printed as the model prints"));
 }
 

@@ -9,6 +9,8 @@ use std::process::Output;
 const SHOWN: usize = 24;
 /// So few lines are shrunk by their words.
 const FEW_LINES: usize = 3;
+/// A word of more bytes is shrunk by its parts.
+const LONG_WORD: usize = 32;
 
 /// A text for `pack`.
 #[derive(Clone, Debug, PartialEq, Eq)]
@@ -33,13 +35,14 @@ impl Packed {
         bytes.or_else(|| message::difference(&output.stderr, "line", packed.wrong))
     }
 
-    /// Its lines; of a few lines the words and what stands between them.
-    fn chunks(&self) -> Vec<&[u8]> {
-        let lines: Vec<&[u8]> = self.text.split_inclusive(|&byte| byte == b'\n').collect();
-        if lines.len() > FEW_LINES {
-            return lines;
-        }
-        self.text.chunk_by(|one, next| one.is_ascii_alphanumeric() && next.is_ascii_alphanumeric()).collect()
+    fn lines(&self) -> Vec<&[u8]> {
+        self.text.split_inclusive(|&byte| byte == b'\n').collect()
+    }
+
+    /// Its words, the parts of a very long one, and each byte between them.
+    fn words(&self) -> Vec<&[u8]> {
+        let words = self.text.chunk_by(|one, next| one.is_ascii_alphanumeric() && next.is_ascii_alphanumeric());
+        words.flat_map(|word| word.chunks(LONG_WORD)).collect()
     }
 }
 
@@ -57,7 +60,9 @@ fn first_byte(written: &[u8], expected: &[u8]) -> Option<String> {
 
 impl Case for Packed {
     fn simpler(&self) -> Box<dyn Iterator<Item = Self> + '_> {
-        Box::new(with_chunks_dropped(&self.chunks()).into_iter().map(Packed::new))
+        let lines = self.lines();
+        let words = if lines.len() > FEW_LINES { Vec::new() } else { with_chunks_dropped(&self.words()) };
+        Box::new(with_chunks_dropped(&lines).into_iter().chain(words).map(Packed::new))
     }
 }
 

@@ -61,7 +61,7 @@ fn words(random: &mut Random, kind: Kind, case: usize, style: Style) -> Vec<Vec<
     let mut words: Vec<Vec<u8>> = numbers.iter().map(|&number| spelling::word(random, number, style)).collect();
     let last = words.len() - 1;
     // Seldom the code: a wrong one could hide that the word was taken.
-    let place = if random.percent(10) { 0 } else { random.below(last as u64) as usize + 1 };
+    let place = if random.percent(10) { 0 } else { random.below(last.max(1) as u64) as usize + 1 };
     match kind {
         Kind::NoNumber => words[place] = no_number(case),
         // Digits and an x could make another number of the last one.
@@ -69,8 +69,9 @@ fn words(random: &mut Random, kind: Kind, case: usize, style: Style) -> Vec<Vec<
         Kind::Followed if random.percent(50) => words.push(no_number(case)),
         Kind::Followed => words[last].extend(no_number(case)),
         Kind::Joined => {
-            let joined = [&words[place.max(1) - 1][..], &[random.one_of(&NO_BLANKS)], &words[place.max(1)]].concat();
-            words.splice(place.max(1) - 1..=place.max(1), [joined]);
+            let (first, second) = (place.max(1) - 1, place.max(1));
+            let joined = [&words[first][..], &[random.one_of(&NO_BLANKS)], &words[second]].concat();
+            words.splice(first..=second, [joined]);
         }
         Kind::TooLarge => words[place] = too_large(random, case, numbers[place]),
         Kind::UnknownCode | Kind::TooFew | Kind::TooMany => {}
