@@ -1,6 +1,6 @@
 //! The proved library and the Rust model beside each other: every answer, every state number and every room number is
 //! compared, on sequences from a fresh state and on single calls with any state and room. [`recording`] does the same with
-//! recordings.
+//! recordings, and [`programs`] runs the programs of `target/bin`.
 //!
 //! A case that disagrees is shrunk ([`shrink`]) and printed as numbers in document 01's written form.
 
@@ -8,6 +8,7 @@ pub mod call;
 pub mod demand3;
 pub mod engine;
 pub mod generate;
+pub mod programs;
 pub mod random;
 pub mod recording;
 pub mod run;

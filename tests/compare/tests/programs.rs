@@ -2,20 +2,14 @@
 //! the proofs; where it is not there, the tests say so and pass. `BRB_SEED` repeats a run.
 
 use compare::generate;
+use compare::programs::{first_difference, pieces, Program, Way, PIECE};
 use compare::recording::{damage, hex, Recording};
 use compare::seed::{self, say};
 use compare::{Call, Random};
 use model::replay;
-use std::fs;
-use std::io::{ErrorKind, Write};
-use std::path::{Path, PathBuf};
-use std::process::{Command, Output, Stdio};
-use std::thread;
 
 const SMALL_RECORDINGS: usize = 60;
 const LARGE_RECORDINGS: usize = 4;
-/// A program that reads in pieces has a piece's end here.
-const PIECE: usize = 65_536;
 /// An accepted branch with the largest numbers has so many bytes.
 const LONGEST_BRANCH: usize = 33;
 /// Recording and counting on, at EL1: session S1 up to its first branch.
@@ -23,95 +17,25 @@ const SET_UP: &str = "0 0 8 0 / 4 0 49 / 6 0 1 10 / 6 0 2 8 / 6 0 3 65536 / 3 0 
 /// S1's reads: BRBINF, BRBSRC and BRBTGT of the newest record.
 const READS: &str = "5 0 32 / 5 0 64 / 5 0 96";
 
-/// The replay program, and a file of its own for recordings.
-struct Program {
-    path: PathBuf,
-    file: PathBuf,
-}
+/// The replay program.
+struct Replay(Program);
 
-impl Program {
-    /// The program for a test of this name; none, with a line that says so, where it is not built.
-    fn of_test(test: &str) -> Option<Program> {
-        let path = Path::new(env!("CARGO_MANIFEST_DIR")).join("../../target/bin/replay");
-        if !path.is_file() {
-            say(&format!("{test}: skipped, the program target/bin/replay is not built"));
-            return None;
-        }
-        let file = Path::new(env!("CARGO_TARGET_TMPDIR")).join(format!("{}.recording", test.replace(' ', "-")));
-        Some(Program { path, file })
+impl Replay {
+    fn of_test(test: &str) -> Option<Replay> {
+        Program::of_test("replay", test, env!("CARGO_TARGET_TMPDIR")).map(Replay)
     }
 
-    /// What it prints for a file.
-    fn of_file(&self, bytes: &[u8]) -> Output {
-        fs::write(&self.file, bytes).expect("a temporary file can be written");
-        Command::new(&self.path).arg(&self.file).stdin(Stdio::null()).output().expect("the program runs")
-    }
-
-    /// What it prints for standard input that comes in pieces of these lengths, over and over.
-    fn of_input(&self, bytes: &[u8], pieces: &[usize]) -> Output {
-        let mut command = Command::new(&self.path);
-        command.stdin(Stdio::piped()).stdout(Stdio::piped()).stderr(Stdio::piped());
-        let mut child = command.spawn().expect("the program runs");
-        let mut input = child.stdin.take().expect("standard input is a pipe");
-        thread::scope(|scope| {
-            scope.spawn(move || {
-                let (mut rest, mut pieces) = (bytes, pieces.iter().cycle());
-                while !rest.is_empty() {
-                    let (piece, others) = rest.split_at(rest.len().min(*pieces.next().expect("there is a length")));
-                    match input.write_all(piece) {
-                        // It stops at what it refuses.
-                        Err(error) if error.kind() == ErrorKind::BrokenPipe => return,
-                        written => written.expect("the program takes its input"),
-                    }
-                    rest = others;
-                }
-            });
-            child.wait_with_output().expect("the program ends")
-        })
-    }
-
-    /// Both ways must print what the model prints.
-    fn check(&self, bytes: &[u8], pieces: &[usize]) {
+    /// As a file and in pieces, it must print what the model prints.
+    fn check(&self, bytes: &[u8], pieces: Way) {
         let expected = replay::text(bytes);
-        for (way, output) in [("file", self.of_file(bytes)), ("standard input", self.of_input(bytes, pieces))] {
-            let errors = String::from_utf8_lossy(&output.stderr);
-            assert!(output.status.code().is_some(), "{way}: the program ended by {}: {errors}", output.status);
-            if output.stdout != expected.as_bytes() {
-                let start = hex(&bytes[..bytes.len().min(80)]);
-                let difference = first_difference(&output.stdout, expected.as_bytes());
-                let kept = self.file.display();
-                panic!("{way}, {} bytes ({start} ...), kept in {kept}: {difference}\n{errors}", bytes.len());
+        for way in [Way::File, pieces] {
+            let output = self.0.run(&[], bytes, &way);
+            if let Some(difference) = first_difference(&output.stdout, expected.as_bytes()) {
+                let (start, kept) = (hex(&bytes[..bytes.len().min(80)]), self.0.file().display());
+                let errors = String::from_utf8_lossy(&output.stderr);
+                panic!("{way:?}, {} bytes ({start} ...), kept in {kept}: {difference}\n{errors}", bytes.len());
             }
         }
-    }
-}
-
-impl Drop for Program {
-    fn drop(&mut self) {
-        // A recording on which the two differ stays for a look.
-        if !thread::panicking() {
-            let _ = fs::remove_file(&self.file);
-        }
-    }
-}
-
-fn first_difference(printed: &[u8], expected: &[u8]) -> String {
-    let [printed, expected] = [printed, expected].map(|text| text.split_inclusive(|&byte| byte == b'\n'));
-    let lines = printed.map(Some).chain([None]).zip(expected.map(Some).chain([None])).enumerate();
-    let mut different = lines.filter(|(_, (printed, expected))| printed != expected);
-    different.next().map_or("nothing differs".into(), |(line, (printed, expected))| {
-        let shown =
-            |text: Option<&[u8]>| text.map(String::from_utf8_lossy).map_or("nothing".into(), |t| format!("{t:?}"));
-        format!("line {}: program {}, model {}", line + 1, shown(printed), shown(expected))
-    })
-}
-
-/// Lengths of pieces in which input comes: one byte each, any, or all at once.
-fn pieces(random: &mut Random, length: usize) -> Vec<usize> {
-    match random.below(4) {
-        0 if length < 500 => vec![1],
-        1 => vec![usize::MAX],
-        _ => (0..8).map(|_| 1 + random.of_length(17) as usize).collect(),
     }
 }
 
@@ -121,19 +45,19 @@ fn push_all(recording: &mut Recording, written: &str) {
 
 #[test]
 fn nothing_and_session_s1() {
-    let Some(program) = Program::of_test("replay of session S1") else { return };
-    program.check(&[], &[1]);
+    let Some(program) = Replay::of_test("replay of session S1") else { return };
+    program.check(&[], Way::Pieces(vec![1]));
     let mut s1 = Recording::default();
     push_all(&mut s1, SET_UP);
     push_all(&mut s1, "1 300 0 0 4100 4112 / 1 300 8 1 4112 4096 / 5 0 32 / 5 0 33 / 5 0 64 / 5 0 2");
-    program.check(&s1.bytes, &[1]);
+    program.check(&s1.bytes, Way::Pieces(vec![1]));
     assert_eq!(replay::text(&s1.bytes), "0000012c00000843\n0000400000000043\n0000000000001010\nundefined\n");
     say("replay of session S1: the program prints what the model prints");
 }
 
 #[test]
 fn small_recordings_and_damaged_ones() {
-    let Some(program) = Program::of_test("replay of small recordings") else { return };
+    let Some(program) = Replay::of_test("replay of small recordings") else { return };
     let mut random = Random::new(seed::of_test("replay of small recordings", seed::from_clock));
     let mut replayed = 0;
     for _ in 0..SMALL_RECORDINGS {
@@ -146,7 +70,7 @@ fn small_recordings_and_damaged_ones() {
         let noise = damage::noise(&mut random);
         for bytes in [&recording.bytes[..], &recording.bytes[..cut], &malformed, &anywhere, &noise] {
             let pieces = pieces(&mut random, bytes.len());
-            program.check(bytes, &pieces);
+            program.check(bytes, pieces);
             replayed += 1;
         }
     }
@@ -155,7 +79,7 @@ fn small_recordings_and_damaged_ones() {
 
 #[test]
 fn large_recordings() {
-    let Some(program) = Program::of_test("replay of large recordings") else { return };
+    let Some(program) = Replay::of_test("replay of large recordings") else { return };
     let mut random = Random::new(seed::of_test("replay of large recordings", seed::from_clock));
     let mut most = 0;
     for _ in 0..LARGE_RECORDINGS {
@@ -168,7 +92,7 @@ fn large_recordings() {
         damaged[place] ^= 0x80;
         for bytes in [bytes, damaged] {
             let pieces = pieces(&mut random, bytes.len());
-            program.check(&bytes, &pieces);
+            program.check(&bytes, pieces);
             most = most.max(bytes.len());
         }
     }
@@ -195,7 +119,7 @@ fn filled_up_to(place: usize) -> Recording {
 /// Each of an operation's bytes once falls on a piece's end, whole, cut there, and with a bad number there.
 #[test]
 fn operations_across_the_end_of_a_piece() {
-    let Some(program) = Program::of_test("replay across pieces") else { return };
+    let Some(program) = Replay::of_test("replay across pieces") else { return };
     let branch = Call([1, u64::MAX, 8, 1, u64::MAX, u64::MAX - 1]);
     let mut replayed = 0;
     for before in 0..=LONGEST_BRANCH {
@@ -207,7 +131,7 @@ fn operations_across_the_end_of_a_piece() {
         let mut bad = recording.bytes.clone();
         bad[end - before + 1..][..10].fill(0xFF);
         for bytes in [recording.bytes, cut, bad] {
-            program.check(&bytes, &[PIECE]);
+            program.check(&bytes, Way::Pieces(vec![PIECE]));
             replayed += 1;
         }
     }

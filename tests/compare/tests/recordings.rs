@@ -21,21 +21,13 @@ fn recordings(random: &mut Random, operations: u64, mut each: impl FnMut(&mut Ra
         let length = generate::length(random);
         let recording = match recordings % 2 {
             0 => Recording::random(random, 200, length),
-            _ => any_operations(random, length),
+            _ => Recording::of_any(random, length),
         };
         each(random, recording);
         done += length as u64;
         recordings += 1;
     }
     recordings
-}
-
-fn any_operations(random: &mut Random, length: usize) -> Recording {
-    let mut recording = Recording::default();
-    for _ in 0..length {
-        recording.push(make::operation(random));
-    }
-    recording
 }
 
 /// Writes operations one after another into as many bytes as they need; one more has no room.

@@ -2,8 +2,9 @@
 //!
 //! It is written from document 01, `docs/DECISIONS.md` and, for what is lent, `include/brb.h` alone, so that the proved
 //! library has something independent to be compared with. [`Rules`] holds one method a rule, in the document's order;
-//! [`Document01`] is the document as it stands. [`Recordings`] does the same for recordings. A test that wants to know
-//! whether an error would be found overrides one method.
+//! [`Document01`] is the document as it stands. [`Recordings`] does the same for recordings, and [`Lines`] and [`Notation`]
+//! for what the programs `list` and `pack` print and read, which `docs/MANUAL.md` says. A test that wants to know whether an
+//! error would be found overrides one method.
 //!
 //! ```
 //! use model::{Answer, Document01, Rules, State};
@@ -19,6 +20,8 @@ pub mod bank;
 pub mod count;
 mod event;
 mod level;
+pub mod lines;
+pub mod notation;
 mod operation;
 mod platform;
 pub mod recording;
@@ -31,6 +34,8 @@ pub use access::{Access, Outcome};
 pub use answer::{Answer, Refusal};
 pub use event::{Cause, Event, Record, Shape};
 pub use level::Level;
+pub use lines::Lines;
+pub use notation::Notation;
 pub use operation::{exception_type, own_fields, BranchType, Operation, Part, Register, EXCEPTION_TYPES, LAST_CODE};
 pub use platform::Platform;
 pub use recording::Recordings;

@@ -32,6 +32,18 @@ impl Recording {
         recording
     }
 
+    /// So many operations of any kind.
+    pub fn of_any(random: &mut Random, length: usize) -> Recording {
+        Recording::of(&(0..length).map(|_| operation(random)).collect::<Vec<_>>())
+    }
+
+    /// These operations, which have known codes.
+    pub fn of(calls: &[Call]) -> Recording {
+        let mut recording = Recording::default();
+        calls.iter().for_each(|&call| recording.push(call));
+        recording
+    }
+
     /// One more operation, which has a known code.
     pub fn push(&mut self, call: Call) {
         self.starts.push(self.bytes.len());
