@@ -113,13 +113,25 @@ n-bits s = (
 abbrev isRedirected : State → Bool
 isRedirected s = eqb (s .level) 2 && E2H s
 
-pub BRBCR_EL1-read : (s : State) (list : List Record) → registerValue s list (meant s 1) ≡ cond (isRedirected s) (s .brbcr2) (s .brbcr1)
+pub BRBCR-EL1-read : (s : State) (list : List Record) → registerValue s list (meant s 1) ≡ cond (isRedirected s) (s .brbcr2) (s .brbcr1)
 unfolding registerValue
-BRBCR_EL1-read s list = go (isRedirected s)
+BRBCR-EL1-read s list = go (isRedirected s)
   where
     go : (t : Bool) → registerValue s list (cond (t && true) 2 1) ≡ cond t (s .brbcr2) (s .brbcr1)
     go true = refl
     go false = refl
+
+pub BRBCR-EL1-written : (s : State) (value : ℕ)
+    → (registerWritten s (meant s 1) value .brbcr2 ≡ cond (isRedirected s) (bitAnd value controlMask) (s .brbcr2))
+    × (registerWritten s (meant s 1) value .brbcr1 ≡ cond (isRedirected s) (s .brbcr1) (bitAnd value controlMask))
+unfolding registerWritten
+BRBCR-EL1-written s value = go (isRedirected s)
+  where
+    go : (t : Bool)
+        → (registerWritten s (cond (t && true) 2 1) value .brbcr2 ≡ cond t (bitAnd value controlMask) (s .brbcr2))
+        × (registerWritten s (cond (t && true) 2 1) value .brbcr1 ≡ cond t (s .brbcr1) (bitAnd value controlMask))
+    go true = (refl, refl)
+    go false = (refl, refl)
 
 -- What a write keeps of a value: BRBCR_EL1 and BRBCR_EL2 their own bits, BRBFCR_EL1 its own.
 abbrev pub keptOf : ℕ → ℕ → ℕ
