@@ -165,13 +165,14 @@ fn with_line(
 fn listed(out: &mut [u8; ROOM], numbers: bool, p: Place, x: Numbers, next: usize) -> Place
     ensures { λ r. ⌜ Listed (now (out .entry)) numbers p x next r (now (out .exit)) ⌝ }
 {
-    if ROOM - LONGEST_LINE < p.waiting {
-        if !flush(b"list", out, p.waiting) {
+    let mut at = p.waiting;
+    if ROOM - LONGEST_LINE < at {
+        if !flush(b"list", out, at) {
             return emptied(p);
         }
-        return with_line(out, 0, numbers, p, x, next);
+        at = 0;
     }
-    with_line(out, p.waiting, numbers, p, x, next)
+    with_line(out, at, numbers, p, x, next)
 }
 
 // Lists the operation that stands next.
