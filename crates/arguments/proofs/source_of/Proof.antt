@@ -1,6 +1,7 @@
 -- What a name says: one test after another, in the order of the definition.
 use borrow.Author.Needs.{needs}
 use borrow.Author.Tests.{eq-eqb, ne-eqb}
+use native.Mathlib.Omega.{arith}
 use denote.Ref.{now}
 use lib.ListN.{length}
 use Rattle.arguments.proofs.source_of.Statement.{statement}
@@ -10,7 +11,7 @@ pub source-of-spec : {M : Type 1} → statement M
 source-of-spec =
     tie.close
     (tie.spec
-    (λ c. rw (eq-eqb (c .before .before .args .i) 0 (c .if1 .taken)))
+    (λ c. rw (eq-eqb (c .before .before .args .i) 0 (omega arith)))
     (λ c. search needs)
     (λ _ _. tt)
     (λ c.
