@@ -1,4 +1,8 @@
-// A program's arguments: what it is to read, and whether as numbers. Every problem is said on standard error.
+// A program's arguments: what it is to read, and whether as numbers. Every problem is said on standard error. What the bytes
+// of an argument decide is promised. What only the system tells is not, since no contract can name it: which arguments there
+// are, whether a file opens, and what is written.
+ghost use mathlib.Core.Path.{_≡_};
+ghost use Rattle.arguments.specs.Arguments.{sameText, wordOf, withHelp, withNumbers, withWrong, withInput, withWord, nextOf, sourceOf};
 use libc::STDERR_FILENO;
 use libc::STDIN_FILENO;
 use libc::STDOUT_FILENO;
@@ -37,21 +41,43 @@ struct Seen {
     wrong: bool,
 }
 
+// What a program does once it has seen its arguments.
+enum Next {
+    Stop,
+    // It prints how it is used.
+    Usage,
+    // It opens the input whose name stands at this place.
+    Open(usize),
+}
+
+// What an input's name says.
+enum Source {
+    Standard,
+    // The name is empty.
+    Unnamed,
+    File,
+}
+
 // Whether two texts are the same.
-fn same(a: &[u8], b: &[u8]) -> bool {
+fn same(a: &[u8], b: &[u8]) -> bool
+    ensures { λ r. ⌜ r ≡ sameText (now (a .entry)) (now (b .entry)) ⌝ }
+{
     if a.len() != b.len() {
         return false;
     }
-    let mut equal = true;
     let mut i = 0;
     while i < a.len() {
-        equal = equal & (a[i] == b[i]);
+        if a[i] != b[i] {
+            return false;
+        }
         i += 1;
     }
-    equal
+    true
 }
 
-fn word_of(text: &[u8]) -> Word {
+fn word_of(text: &[u8]) -> Word
+    ensures { λ r. ⌜ r ≡ wordOf (now (text .entry)) ⌝ }
+{
     if same(text, b"--help") {
         return Word::Help;
     }
@@ -80,14 +106,18 @@ fn complain(program: &[u8], what: &[u8], text: &[u8]) {
 }
 
 // The same, with nothing to read from here on.
-fn refuse(program: &[u8], what: &[u8], text: &[u8], mut seen: Seen) -> Seen {
+fn refuse(program: &[u8], what: &[u8], text: &[u8], mut seen: Seen) -> Seen
+    ensures { λ r. ⌜ r ≡ withWrong seen ⌝ }
+{
     complain(program, what, text);
     seen.wrong = true;
     seen
 }
 
 // The input's name, at place i: there is one at most.
-fn named(program: &[u8], i: usize, text: &[u8], mut seen: Seen) -> Seen {
+fn named(program: &[u8], i: usize, text: &[u8], mut seen: Seen) -> Seen
+    ensures { λ r. ⌜ r ≡ withInput i seen ⌝ }
+{
     if seen.name != 0 {
         return refuse(program, b"a second input, ", text, seen);
     }
@@ -95,18 +125,24 @@ fn named(program: &[u8], i: usize, text: &[u8], mut seen: Seen) -> Seen {
     seen
 }
 
-fn helped(mut seen: Seen) -> Seen {
+fn helped(mut seen: Seen) -> Seen
+    ensures { λ r. ⌜ r ≡ withHelp seen ⌝ }
+{
     seen.help = true;
     seen
 }
 
-fn numbered(mut seen: Seen) -> Seen {
+fn numbered(mut seen: Seen) -> Seen
+    ensures { λ r. ⌜ r ≡ withNumbers seen ⌝ }
+{
     seen.numbers = true;
     seen
 }
 
 // What the arguments say with the one at place i, whose text this is. `numbers`: the program has that option.
-fn with_text(program: &[u8], numbers: bool, i: usize, text: &[u8], seen: Seen) -> Seen {
+fn with_text(program: &[u8], numbers: bool, i: usize, text: &[u8], seen: Seen) -> Seen
+    ensures { λ r. ⌜ r ≡ withWord numbers i (wordOf (now (text .entry))) seen ⌝ }
+{
     match word_of(text) {
         Word::Help => helped(seen),
         Word::Numbers => {
@@ -151,15 +187,24 @@ fn all_arguments(program: &[u8], numbers: bool) -> Seen {
     seen
 }
 
-// The file of this name, or standard input where the name is `-`. The program's name goes in front of the system's text.
-fn open_named(program: &[u8], name: &[u8]) -> Input {
+// What the name at place i of the arguments says; at place 0 there is none.
+fn source_of(i: usize, name: &[u8]) -> Source
+    ensures { λ r. ⌜ r ≡ sourceOf i (now (name .entry)) ⌝ }
+{
+    if i == 0 {
+        return Source::Standard;
+    }
     if same(name, b"-") {
-        return Input::Opened(STDIN_FILENO);
+        return Source::Standard;
     }
     if name.len() == 0 {
-        complain(program, b"the input's name is empty", b"");
-        return Input::Nothing;
+        return Source::Unnamed;
     }
+    Source::File
+}
+
+// The file of this name. The program's name goes in front of the system's text.
+fn open_file(program: &[u8], name: &[u8]) -> Input {
     let descriptor = os::open_read(name);
     if descriptor < 0 {
         io::write_all(STDERR_FILENO, program);
@@ -170,37 +215,52 @@ fn open_named(program: &[u8], name: &[u8]) -> Input {
     Input::Opened(descriptor)
 }
 
-// The input whose name stands at place i of the arguments; standard input where there is no name.
+// The input whose name stands at place i of the arguments.
 fn open_argument(program: &[u8], i: usize) -> Input {
-    if i == 0 {
-        return Input::Opened(STDIN_FILENO);
-    }
     let mut name = io::buffer();
     let length = os::arg(i, &mut name);
-    open_named(program, &name[..length])
+    match source_of(i, &name[..length]) {
+        Source::Standard => Input::Opened(STDIN_FILENO),
+        Source::Unnamed => {
+            complain(program, b"the input's name is empty", b"");
+            Input::Nothing
+        }
+        Source::File => open_file(program, &name[..length]),
+    }
+}
+
+// What is to be done where all arguments are seen.
+fn next_of(seen: Seen) -> Next
+    ensures { λ r. ⌜ r ≡ nextOf seen ⌝ }
+{
+    if seen.wrong {
+        return Next::Stop;
+    }
+    if seen.help {
+        return Next::Usage;
+    }
+    Next::Open(seen.name)
+}
+
+// Does it, and answers what is to be read.
+fn input_for(program: &[u8], usage: &[u8], next: Next) -> Input {
+    match next {
+        Next::Stop => Input::Nothing,
+        Next::Usage => {
+            io::write_all(STDOUT_FILENO, usage);
+            Input::Nothing
+        }
+        Next::Open(i) => open_argument(program, i),
+    }
 }
 
 // Looks at the arguments and opens what the program is to read: the file that they name, or standard input where they
 // name none or `-`. Where help is asked for, `usage` is printed. `numbers`: the program has the option `--numbers`.
 pub fn look(program: &[u8], usage: &[u8], numbers: bool) -> Called {
     let seen = all_arguments(program, numbers);
-    let as_numbers = seen.numbers;
-    if seen.wrong {
-        return Called {
-            input: Input::Nothing,
-            numbers: as_numbers,
-        };
-    }
-    if seen.help {
-        io::write_all(STDOUT_FILENO, usage);
-        return Called {
-            input: Input::Nothing,
-            numbers: as_numbers,
-        };
-    }
-    let input = open_argument(program, seen.name);
+    let input = input_for(program, usage, next_of(seen));
     Called {
         input,
-        numbers: as_numbers,
+        numbers: seen.numbers,
     }
 }

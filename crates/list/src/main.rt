@@ -1,4 +1,14 @@
-// A recording, as one line an operation on standard output.
+// A recording, as one line an operation on standard output. What is read and written is the system's, and no contract can say
+// it: so `read_behind`, `refilled`, `say`, `list_all`, `finish` and `main` promise only what does not depend on it.
+ghost use mathlib.Core.Path.{_≡_};
+ghost use mathlib.Core.Bool.{Bool, true, false};
+ghost use Prim.Native.Nat.{_-_, _≤_};
+ghost use lib.Dec.{eqb};
+ghost use lib.ListN.{take};
+ghost use Rattle.number.specs.Number.{numberAt, written};
+ghost use Rattle.recording.specs.Recording.{operationAt};
+ghost use Rattle.readable.specs.Readable.{lineOf};
+ghost use Rattle.list.specs.List.{stoppedAt, emptiedAt, refilledAt, listedAt, Listed, Turned, TurnedAt, needsMore};
 use arguments::Input;
 use arguments::look;
 use buffer::ROOM;
@@ -34,13 +44,17 @@ struct Place {
 }
 
 // Nothing more is read or listed.
-fn stopped(mut p: Place) -> Place {
+fn stopped(mut p: Place) -> Place
+    ensures { λ r. ⌜ r ≡ stoppedAt p ⌝ }
+{
     p.going = false;
     p
 }
 
 // The same, with nothing that waits.
-fn emptied(mut p: Place) -> Place {
+fn emptied(mut p: Place) -> Place
+    ensures { λ r. ⌜ r ≡ emptiedAt p ⌝ }
+{
     p.waiting = 0;
     stopped(p)
 }
@@ -51,6 +65,20 @@ fn read_behind(input: i32, bytes: &mut [u8], left: usize) -> isize {
     libc::read(input, &mut bytes[start..])
 }
 
+// The place after a read of so many bytes behind the `left` that are kept.
+fn after_read(p: Place, left: usize, came: usize, ended: bool) -> Place
+    ensures { λ r. ⌜ r ≡ refilledAt p left came ended ⌝ }
+{
+    Place {
+        start: 0,
+        end: forward(left, came),
+        before: wrapping_add_u64(p.before, p.start as u64),
+        ended,
+        waiting: p.waiting,
+        going: true,
+    }
+}
+
 // Makes room at the front and reads once.
 fn refilled(input: i32, bytes: &mut [u8; ROOM], p: Place) -> Place {
     let left = move_down(bytes, p.start, p.end);
@@ -59,24 +87,21 @@ fn refilled(input: i32, bytes: &mut [u8; ROOM], p: Place) -> Place {
         os::fail(b"list: the input cannot be read");
         return stopped(p);
     }
-    let came = io::count(got, bytes);
-    Place {
-        start: 0,
-        end: forward(left, came),
-        before: wrapping_add_u64(p.before, p.start as u64),
-        ended: got == 0,
-        waiting: p.waiting,
-        going: true,
-    }
+    after_read(p, left, io::count(got, bytes), got == 0)
 }
 
 // The operation at a place of the bytes up to `end`.
-fn reading_at(bytes: &[u8], end: usize, at: usize) -> Reading {
+fn reading_at(bytes: &[u8], end: usize, at: usize) -> Reading
+    ensures { λ r. ⌜ r ≡ operationAt (take end (now (bytes .entry))) at ⌝ }
+{
     let n = within(end, bytes);
     operation_at(&bytes[..n], at)
 }
 
-fn found_at(bytes: &[u8], end: usize, at: usize) -> Found {
+// The number there.
+fn found_at(bytes: &[u8], end: usize, at: usize) -> Found
+    ensures { λ r. ⌜ r ≡ numberAt (take end (now (bytes .entry))) at ⌝ }
+{
     let n = within(end, bytes);
     number_at(&bytes[..n], at)
 }
@@ -104,53 +129,74 @@ fn say(byte: u64, found: Found) {
 }
 
 // The lines before go out first, then the message.
-fn refused(bytes: &[u8; ROOM], out: &[u8; ROOM], p: Place, at: usize) -> Place {
+fn refused(bytes: &[u8; ROOM], out: &[u8; ROOM], p: Place, at: usize) -> Place
+    ensures { λ r. ⌜ r ≡ emptiedAt p ⌝ }
+{
     flush(b"list", out, p.waiting);
     let found = found_at(bytes, p.end, at);
     say(wrapping_add_u64(p.before, at as u64), found);
     emptied(p)
 }
 
-// The place after an operation, whose line is written. What waits goes out before, where a long line might have no room.
-fn listed(out: &mut [u8; ROOM], numbers: bool, p: Place, x: Numbers, next: usize) -> Place {
-    let mut waiting = p.waiting;
-    if ROOM - LONGEST_LINE < waiting {
-        let is_out = flush(b"list", out, waiting);
-        waiting = 0;
-        if !is_out {
-            return emptied(p);
-        }
-    }
+// Writes an operation's line at a place where the longest line has room, and answers the place after the operation.
+fn with_line(
+    out: &mut [u8; ROOM],
+    at: usize,
+    numbers: bool,
+    p: Place,
+    x: Numbers,
+    next: usize,
+) -> Place
+    requires { ⌜ at ≤ 65280 ⌝ }
+    ensures { λ r. ⌜ r ≡ listedAt p at numbers x next ⌝ }
+    ensures { λ _. ⌜ now (out .exit) ≡ written (now (out .entry)) at (lineOf numbers x) ⌝ }
+{
     Place {
         start: next,
         end: p.end,
         before: p.before,
         ended: p.ended,
-        waiting: put_line(out, waiting, numbers, x),
+        waiting: put_line(out, at, numbers, x),
         going: p.going,
     }
 }
 
+// The same behind what waits, which goes out before, where a long line might have no room.
+fn listed(out: &mut [u8; ROOM], numbers: bool, p: Place, x: Numbers, next: usize) -> Place
+    ensures { λ r. ⌜ Listed (now (out .entry)) numbers p x next r (now (out .exit)) ⌝ }
+{
+    let mut at = p.waiting;
+    if ROOM - LONGEST_LINE < at {
+        if !flush(b"list", out, at) {
+            return emptied(p);
+        }
+        at = 0;
+    }
+    with_line(out, at, numbers, p, x, next)
+}
+
 // Lists the operation that stands next.
-fn operation_listed(bytes: &[u8; ROOM], out: &mut [u8; ROOM], numbers: bool, p: Place) -> Place {
+fn operation_listed(bytes: &[u8; ROOM], out: &mut [u8; ROOM], numbers: bool, p: Place) -> Place
+    ensures { λ r. ⌜ Turned (now (out .entry)) numbers p (operationAt (take (p .end) (now (bytes .entry))) (p .start)) r (now (out .exit)) ⌝ }
+{
     match reading_at(bytes, p.end, p.start) {
         Reading::Operation(x, next) => listed(out, numbers, p, x, next),
         Reading::Refused(_, at) => refused(bytes, out, p, at),
     }
 }
 
-fn left_of(p: Place) -> usize {
+// How many bytes are left of what was read.
+fn left_of(p: Place) -> usize
+    ensures { λ r. ⌜ r ≡ p .end - p .start ⌝ }
+{
     if p.start < p.end { p.end - p.start } else { 0 }
 }
 
 // Lists an operation, or reads once where too little is there to be sure of a whole one.
-fn turn(
-    input: i32,
-    numbers: bool,
-    bytes: &mut [u8; ROOM],
-    out: &mut [u8; ROOM],
-    p: Place,
-) -> Place {
+fn turn(input: i32, numbers: bool, bytes: &mut [u8; ROOM], out: &mut [u8; ROOM], p: Place) -> Place
+    ensures { λ r. ⌜ (needsMore p ≡ false → TurnedAt (eqb (p .end - p .start) 0) (now (out .entry)) numbers p (operationAt (take (p .end) (now (bytes .entry))) (p .start)) r (now (out .exit))) ⌝ }
+    ensures { λ _. ⌜ (needsMore p ≡ true → now (out .exit) ≡ now (out .entry)) ⌝ }
+{
     let left = left_of(p);
     if (left < LONGEST) & !p.ended {
         return refilled(input, bytes, p);

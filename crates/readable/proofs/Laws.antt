@@ -113,16 +113,17 @@ length-line true x =
     simp length-append (omega (arith, length-decimal (x .code), length-spaced (ownNumbers x), length-take (fieldCount (x .code)) (x .a ∷ x .b ∷ x .c ∷ x .d ∷ [])))
 length-line false x = simp length-append (omega (arith, length-text x))
 
--- A line that has no room is not written, and one that has is.
-pub no-line : (out : List ℕ) (at : ℕ) (numbers : Bool) (x : Numbers) → leb (at + 256) (length out) ≡ false
-    → (at ≡ lineEnd out at numbers x) × (out ≡ lineWritten out at numbers x)
-unfolding lineEnd lineWritten
-no-line out at numbers x e = (rw e, rw e)
+-- A line that has no room is not written, and one that has is. The room has 65536 bytes.
+module _ (out : List ℕ) (at : ℕ) (numbers : Bool) (x : Numbers) (whole : length out ≡ 65536) where
+  pub no-line : leb (at + 256) (length out) ≡ false → (at ≡ lineEnd at numbers x) × (out ≡ lineWritten out at numbers x)
+  unfolding lineEnd lineWritten
+  no-line h = let e = rw whole at h in (rw e, rw e)
 
-pub whole-line : {place : ℕ} {after : List ℕ} (out : List ℕ) (at : ℕ) (numbers : Bool) (x : Numbers) → leb (at + 256) (length out) ≡ true
-    → Put out at (lineOf numbers x) place after → (place ≡ lineEnd out at numbers x) × (after ≡ lineWritten out at numbers x)
-unfolding lineEnd lineWritten
-whole-line out at numbers x e put =
-    let fits : at + 256 ≤ length out = omega (arith, leb-true) in
-    let (place, content) = put .held (omega (arith, length-line numbers x)) in
-    (rw e place, rw e content)
+  pub whole-line : {place : ℕ} {after : List ℕ} → leb (at + 256) (length out) ≡ true → Put out at (lineOf numbers x) place after
+      → (place ≡ lineEnd at numbers x) × (after ≡ lineWritten out at numbers x)
+  unfolding lineEnd lineWritten
+  whole-line h put =
+      let fits : at + 256 ≤ length out = omega (arith, leb-true) in
+      let (place, content) = put .held (omega (arith, length-line numbers x)) in
+      let e = rw whole at h in
+      (rw e place, rw e content)

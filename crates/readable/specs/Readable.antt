@@ -123,14 +123,14 @@ readableLine x = readableText x ++ bytesOfText "\n"
 unfoldable pub lineOf : Bool → Numbers → List ℕ
 lineOf numbers x = cond numbers (numbersLine x) (readableLine x)
 
--- The output's room with an operation's line at a place. A line has at most 256 bytes; where so many have no room, nothing is
--- written.
+-- The output's room of 65536 bytes with an operation's line at a place. A line has at most 256 bytes; where so many have no
+-- room, nothing is written.
 unfoldable pub lineWritten : List ℕ → ℕ → Bool → Numbers → List ℕ
-lineWritten out at numbers x = cond (leb (at + 256) (length out)) (written out at (lineOf numbers x)) out
+lineWritten out at numbers x = cond (leb (at + 256) 65536) (written out at (lineOf numbers x)) out
 
 -- The place after it, which is the same where nothing is written.
-unfoldable pub lineEnd : List ℕ → ℕ → Bool → Numbers → ℕ
-lineEnd out at numbers x = cond (leb (at + 256) (length out)) (at + length (lineOf numbers x)) at
+unfoldable pub lineEnd : ℕ → Bool → Numbers → ℕ
+lineEnd at numbers x = cond (leb (at + 256) 65536) (at + length (lineOf numbers x)) at
 
 -- What each part of a line promises: where its bytes have room at the place, they stand there with all else as it was, and the
 -- answer is the place after them.

@@ -230,7 +230,7 @@ fn has_room(out: &[u8], at: usize) -> bool
 // The line of an operation, its end included, and the place after it; where the longest line has no room, nothing is written
 // and the place stays.
 pub fn put_line(out: &mut [u8; ROOM], at: usize, numbers: bool, x: Numbers) -> usize
-    ensures { λ r. ⌜ r ≡ lineEnd (now (out .entry)) at numbers x ⌝ }
+    ensures { λ r. ⌜ r ≡ lineEnd at numbers x ⌝ }
     ensures { λ _. ⌜ now (out .exit) ≡ lineWritten (now (out .entry)) at numbers x ⌝ }
 {
     if !has_room(out, at) {

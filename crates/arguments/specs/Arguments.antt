@@ -1,0 +1,62 @@
+-- What a program's arguments ask for, each by its bytes. docs/MANUAL.md, "Programs".
+use Prim.Native.Nat.{ℕ}
+use mathlib.Core.Bool.{Bool, true, false, cond, _&&_}
+use mathlib.Core.List.{List, [], _∷_}
+use lib.Dec.{eqb}
+use lib.ListN.{length, getD}
+use Rattle.text.specs.Text.{bytesOfText}
+use Rattle.arguments.specs.declared.Word.{Word}
+use Rattle.arguments.specs.declared.Word.the-variants.{Help, Numbers, Dash, Option, Name}
+use Rattle.arguments.specs.declared.Seen.{Seen}
+use Rattle.arguments.specs.declared.Source.{Source}
+use Rattle.arguments.specs.declared.Source.the-variants.{Standard, Unnamed, File}
+use Rattle.arguments.specs.declared.Next.{Next}
+use Rattle.arguments.specs.declared.Next.the-variants.{Stop, Usage, Open}
+
+-- Whether two texts are the same, byte for byte.
+unfoldable pub sameText : List ℕ → List ℕ → Bool
+sameText [] [] = true
+sameText [] (b ∷ others) = false
+sameText (a ∷ text) [] = false
+sameText (a ∷ text) (b ∷ others) = eqb a b && sameText text others
+
+-- What one argument is: an option that is known, `-`, an option that is not, which starts with - too, or else a name.
+unfoldable pub wordOf : List ℕ → Word
+wordOf text =
+    cond (sameText text (bytesOfText "--help")) Help
+    (cond (sameText text (bytesOfText "--numbers")) Numbers
+    (cond (sameText text (bytesOfText "-")) Dash
+    (cond (eqb (length text) 0) Name (cond (eqb (getD text 0 0) 45) Option Name))))
+
+-- What the arguments so far say, with one thing changed.
+abbrev pub withHelp : Seen → Seen
+withHelp s = record { help = true; numbers = s .numbers; name = s .name; wrong = s .wrong }
+
+abbrev pub withNumbers : Seen → Seen
+withNumbers s = record { help = s .help; numbers = true; name = s .name; wrong = s .wrong }
+
+abbrev pub withName : ℕ → Seen → Seen
+withName i s = record { help = s .help; numbers = s .numbers; name = i; wrong = s .wrong }
+
+abbrev pub withWrong : Seen → Seen
+withWrong s = record { help = s .help; numbers = s .numbers; name = s .name; wrong = true }
+
+-- With an input's name at place i: a second one is wrong.
+abbrev pub withInput : ℕ → Seen → Seen
+withInput i s = cond (eqb (s .name) 0) (withName i s) (withWrong s)
+
+-- With a word at place i. `numbers`: the program has the option `--numbers`.
+abbrev pub withWord : Bool → ℕ → Word → Seen → Seen
+withWord numbers i Help s = withHelp s
+withWord numbers i Numbers s = cond numbers (withNumbers s) (withWrong s)
+withWord numbers i Dash s = withInput i s
+withWord numbers i Option s = withWrong s
+withWord numbers i Name s = withInput i s
+
+-- What a program does once it has seen its arguments: nothing where one is wrong, then help, and else it opens its input.
+abbrev pub nextOf : Seen → Next
+nextOf s = cond (s .wrong) Stop (cond (s .help) Usage (Open (s .name)))
+
+-- What the argument at a place names: standard input is `-`, or where there is no name, which place 0 says.
+abbrev pub sourceOf : ℕ → List ℕ → Source
+sourceOf i name = cond (eqb i 0) Standard (cond (sameText name (bytesOfText "-")) Standard (cond (eqb (length name) 0) Unnamed File))
