@@ -75,7 +75,7 @@ ends-as-arm-says s u n = (
   λ e. rw e,
 )
 
--- "Writing 0 or a record register: UNDEFINED. Register 2 at EL1: UNDEFINED." At every level, and before every trap.
+-- What is undefined by itself, at every level and before every trap: a write of what cannot be written, and BRBCR_EL2 at EL1.
 pub undefined-accesses : (s : State)
     → (writeOutcome s 0 ≡ Undefined)
     × ((r : ℕ) → 32 ≤ r → r ≤ 127 → writeOutcome s r ≡ Undefined)
@@ -89,7 +89,7 @@ undefined-accesses s = (
   λ e. rw e,
 )
 
--- Which n-bit each access looks at: "nBRBDATA records, nBRBIDR register 0, nBRBCTL registers 1 and 3", read and write apart.
+-- Which n-bit each access looks at, by P's bits; reads and writes of control registers have one each.
 pub n-bits : (s : State)
     → ((m : ℕ) → m < 96 → nBit s false (32 + m) ≡ isSet 9 (s .p))
     × (nBit s false 0 ≡ isSet 12 (s .p))

@@ -15,7 +15,8 @@ use Rattle.operation.specs.Operation.{codeOf}
 use Rattle.operation.specs.Changed.{changed}
 use Rattle.change.specs.Change.{occasion}
 
--- "An accepted operation, this one included, began at a prohibited level; a write turned counting on; a write cleared PAUSED from 1."
+-- The listed occasions, one by one (document 01, "Cycles"; R_MJDLC): any operation that began at a prohibited level; a write that turned
+-- counting on; a write that cleared PAUSED.
 pub data Occasion (s : State) : Operation → Type 0 where
   began-prohibited : {o : Operation} → prohibited s (s .level) ≡ true → Occasion s o
   counting-turned-on : {register value : ℕ} → counting s ≡ false → counting (changed s (Write register value)) ≡ true

@@ -58,7 +58,7 @@ never-shown : {A : Type 0} (t : Bool) (new other : A) → cond (t && false) new 
 never-shown true new other = refl
 never-shown false new other = refl
 
--- R_YGGSC: "no data is captured": address, prediction, level.
+-- R_YGGSC: nothing of a prohibited side is captured, be it address, prediction or level.
 pub record Hidden (s : State) (left entered : ℕ) (new : Record) : Type 0 where
   pub source : prohibited s left ≡ true → new .source ≡ 0
   pub prediction : prohibited s left ≡ true → part 5 5 (new .inf) ≡ 0

@@ -34,35 +34,39 @@ stepLines words o room = tooFew words ∷ table (stateOf words) o room
 
 -- ---- what stands at a position of a recording
 
--- It is a number; its value; the position after it.
+-- It is a number.
 abbrev pub isNumber : Found → Bool
 isNumber (Value n next) = true
 isNumber Malformed = false
 isNumber Ended = false
 
+-- Its value, or 0 where it is no number.
 abbrev pub valueOf : Found → ℕ
 valueOf (Value n next) = n
 valueOf Malformed = 0
 valueOf Ended = 0
 
+-- The position after it.
 abbrev pub positionAfter : Found → ℕ
 positionAfter (Value n next) = next
 positionAfter Malformed = 0
 positionAfter Ended = 0
 
--- They are all numbers; their values.
+-- They are all numbers.
 abbrev pub areNumbers : Several → Bool
 areNumbers (got list next) = true
 areNumbers (bad number place) = false
 
+-- Their values.
 abbrev pub valuesOf : Several → List ℕ
 valuesOf (got list next) = list
 valuesOf (bad number place) = []
 
--- The code at a position, and behind it the cycles and as many fields as the code has.
+-- The code at a position.
 abbrev pub codeAt : List ℕ → ℕ → ℕ
 codeAt bytes at = valueOf (numberAt bytes at)
 
+-- The cycles and as many fields as the code has, behind the code at a position.
 abbrev pub restAt : List ℕ → ℕ → Several
 restAt bytes at = numbersAt (suc (fieldCount (codeAt bytes at))) bytes (positionAfter (numberAt bytes at))
 

@@ -16,32 +16,36 @@ use Rattle.history.specs.History.{Timed, Machine, stepped, run, shown, i
 
 -- ---- what one operation of a run does to the records
 
--- An effect puts a new record in front; starts anew from a reset; leaves no record, by a reset or by BRB IALL.
+-- An effect puts a new record in front.
 abbrev pub isPush : Effect → Bool
 isPush Keep = false
 isPush (Push new) = true
 isPush Clear = false
 isPush (ResetTo size) = false
 
+-- An effect starts anew, from a reset.
 abbrev pub isReset : Effect → Bool
 isReset Keep = false
 isReset (Push new) = false
 isReset Clear = false
 isReset (ResetTo size) = true
 
+-- An effect leaves no record: a reset's, and BRB IALL's.
 abbrev pub isEmptying : Effect → Bool
 isEmptying Keep = false
 isEmptying (Push new) = false
 isEmptying Clear = true
 isEmptying (ResetTo size) = true
 
--- The operation is accepted and makes a record; is an accepted reset; is accepted and leaves no record.
+-- The operation is accepted and makes a record.
 abbrev pub makesRecord : Machine → Timed → Bool
 makesRecord m t = isAccepted m t && isPush (effectIn m t)
 
+-- The operation is an accepted reset.
 abbrev pub restarts : Machine → Timed → Bool
 restarts m t = isAccepted m t && isReset (effectIn m t)
 
+-- The operation is accepted and leaves no record.
 abbrev pub empties : Machine → Timed → Bool
 empties m t = isAccepted m t && isEmptying (effectIn m t)
 
@@ -91,9 +95,9 @@ pub data Occurs (Such : State → Operation → Type 0) : Machine → List Timed
 pub data IsReset (s : State) : Operation → Type 0 where
   a-reset : {size v1p1 : ℕ} → IsReset s (Reset size v1p1)
 
--- The count of a record that the operation t makes after the operations of `list` is unknown, in document 01's words: "exactly when counting
--- is off, or when no record was made since the reset, or when since the last record one of these happened: an accepted operation, this one
--- included, …". The operations `after` are some of those since the last record: none of them made one.
+-- The count of a record that the operation t makes after the operations of `list` is unknown (document 01, "Cycles"; R_MJDLC), without the
+-- flag: counting is off; or there was a reset and no record since it; or there was an occasion and no record since it, t itself counting as
+-- one. The operations `after` are some of those since the last record: none of them made one.
 pub data CountUnknown (m : Machine) (list : List Timed) (t : Timed) : Type 0 where
   counting-off : counting (run m list .state) ≡ false → CountUnknown m list t
   no-record : (before after : List Timed) → list ≡ before ++ after → howMany makesRecord (run m before) after ≡ 0

@@ -1,6 +1,6 @@
--- Sequences of operations, and the words of demand 3: "For any sequence from a reset, over neighbouring valid records where
--- all but the oldest have a known, not exceeded count: with S the sum of the decoded counts of all but the oldest and T the
--- exact cycles of accepted operations after the oldest's event up to and including the newest's: S ≤ T and 256·(T − S) ≤ S."
+-- Sequences of operations, and the words of demand 3: over neighbouring records that are there, all but the oldest of them with
+-- a known count, the decoded counts S and the exact time T from the oldest's event to the newest's differ by at most one part
+-- in 256 of S, and S is not above T.
 use Prim.Native.Nat.{ℕ, zero, suc, _+_, _*_, _-_, _≤_}
 use mathlib.Core.Bool.{Bool, true, false, cond, _&&_, not}
 use mathlib.Core.List.{List, [], _∷_}
@@ -97,6 +97,7 @@ notedStep x t =
       notes = cond (isAccepted (x .machine) t) (notesAfter (effectIn (x .machine) t) (x .clock + t .cycles) (x .notes)) (x .notes);
     }
 
+-- One noted step after another.
 unfoldable pub notedRun : Noted → List Timed → Noted
 notedRun x [] = x
 notedRun x (t ∷ list) = notedRun (notedStep x t) list
@@ -105,6 +106,7 @@ notedRun x (t ∷ list) = notedRun (notedStep x t) list
 abbrev pub history : Machine → List Timed → Noted
 history m list = notedRun (record { machine = m; clock = 0; notes = [] }) list
 
+-- The notes of the noted run.
 abbrev pub notesOf : Machine → List Timed → List Note
 notesOf m list = history m list .notes
 
@@ -114,6 +116,7 @@ note i notes = getD notes i (record { time = 0; made = zeroRecord })
 
 -- ---- sequences from a reset
 
+-- A reset of this size and version, with the cycles passed before it.
 abbrev pub resetWith : ℕ → ℕ → ℕ → Timed
 resetWith size v1p1 cycles = record { operation = Reset size v1p1; cycles = cycles }
 
@@ -126,19 +129,23 @@ pub data FromReset : Machine → List Timed → Type 0 where
 
 -- ---- stretches of neighbouring records
 
--- Fields of BRBINF: "CCU bit 46, CC 45:32", "VALID 1:0".
+-- BRBINF's field CCU.
 abbrev pub CCU : Record → ℕ
 CCU r = part 46 46 (r .inf)
 
+-- BRBINF's field CC.
 abbrev pub CC : Record → ℕ
 CC r = part 45 32 (r .inf)
 
+-- BRBINF's field VALID.
 abbrev pub VALID : Record → ℕ
 VALID r = part 1 0 (r .inf)
 
+-- The record is there: full or half (R_XRHTY).
 abbrev pub isValid : Record → Bool
 isValid r = not (eqb (VALID r) 0)
 
+-- Decoding gave a count.
 abbrev pub isKnown : Decoded → Bool
 isKnown (Known n) = true
 isKnown Exceeded = false
@@ -157,12 +164,12 @@ unfoldable pub stretch : List Record → ℕ → ℕ → Bool
 stretch list i zero = isValid (numbered i list)
 stretch list i (suc n) = isValid (numbered i list) && isCounted (numbered i list) && stretch list (suc i) n
 
--- S: "the sum of the decoded counts of all but the oldest" of the records i to i + n.
+-- S: the decoded counts of the records i to i + n, the oldest left out, added up.
 unfoldable pub S : List Record → ℕ → ℕ → ℕ
 S list i zero = 0
 S list i (suc n) = count (numbered i list) + S list (suc i) n
 
--- T: "the exact cycles of accepted operations after the oldest's event up to and including the newest's".
+-- T: the time from the event of record i + n to that of record i, by their notes.
 abbrev pub T : List Note → ℕ → ℕ → ℕ
 T notes i n = note i notes .time - note (i + n) notes .time
 
@@ -175,6 +182,6 @@ acceptedCycles m (t ∷ list) = cond (isAccepted m t) (t .cycles) 0 + acceptedCy
 abbrev pub justMade : Noted → Type 0
 justMade x = note 0 (x .notes) .time ≡ x .clock
 
--- Demand 3: "S ≤ T and 256·(T − S) ≤ S".
+-- Demand 3's two inequalities.
 abbrev pub Near : ℕ → ℕ → Type 0
 Near s t = (s ≤ t) × (256 * (t - s) ≤ s)

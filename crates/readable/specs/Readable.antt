@@ -56,7 +56,7 @@ groupRegister n = entry (groups n) (n / 32) (decimal n)
 abbrev pub field : String → List ℕ → List ℕ
 field name value = bytesOfText " " ++ bytesOfText name ++ bytesOfText "=" ++ value
 
--- The fields that several operations have.
+-- The cycles, which every operation has.
 abbrev pub cyclesField : Numbers → List ℕ
 cyclesField x = field "cycles" (decimal (x .cycles))
 
@@ -64,38 +64,47 @@ cyclesField x = field "cycles" (decimal (x .cycles))
 abbrev pub branchTypeField : ℕ → List ℕ
 branchTypeField n = field "type" (entry branchTypes n (prefixed n))
 
+-- A register of a group, as a field.
 abbrev pub groupField : ℕ → List ℕ
 groupField n = field "register" (groupRegister n)
 
--- A register, the same.
+-- A register by its name, or its number where it has none.
 abbrev pub registerField : ℕ → List ℕ
 registerField n = field "register" (entry registers n (groupRegister n))
 
+-- The two addresses of an event.
 abbrev pub addressFields : Numbers → List ℕ
 addressFields x = field "source" (prefixed (x .c)) ++ field "target" (prefixed (x .d))
 
--- The text of each operation.
+-- A reset.
 abbrev pub resetText : Numbers → List ℕ
 resetText x = bytesOfText "reset" ++ cyclesField x ++ field "size" (decimal (x .a)) ++ field "v1p1" (decimal (x .b))
 
+-- A taken branch.
 abbrev pub branchText : Numbers → List ℕ
 branchText x = bytesOfText "branch" ++ cyclesField x ++ branchTypeField (x .a) ++ field "mispredicted" (decimal (x .b)) ++ addressFields x
 
+-- An exception.
 abbrev pub exceptionText : Numbers → List ℕ
 exceptionText x = bytesOfText "exception" ++ cyclesField x ++ field "type" (prefixed (x .a)) ++ field "target_level" (decimal (x .b)) ++ addressFields x
 
+-- An exception return.
 abbrev pub returnText : Numbers → List ℕ
 returnText x = bytesOfText "return" ++ cyclesField x ++ field "target_level" (decimal (x .a)) ++ field "mispredicted" (decimal (x .b)) ++ addressFields x
 
+-- A platform word.
 abbrev pub platformText : Numbers → List ℕ
 platformText x = bytesOfText "platform" ++ cyclesField x ++ field "P" (prefixed (x .a))
 
+-- A read.
 abbrev pub readText : Numbers → List ℕ
 readText x = bytesOfText "read" ++ cyclesField x ++ registerField (x .a)
 
+-- A write.
 abbrev pub writeText : Numbers → List ℕ
 writeText x = bytesOfText "write" ++ cyclesField x ++ registerField (x .a) ++ field "value" (prefixed (x .b))
 
+-- BRB IALL.
 abbrev pub iallText : Numbers → List ℕ
 iallText x = bytesOfText "iall" ++ cyclesField x
 
