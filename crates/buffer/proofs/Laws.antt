@@ -1,12 +1,11 @@
 -- Bytes moved to the front, one after another.
 use Prim.Native.Nat.{ℕ, suc, _+_, _-_, _≤_, _<_}
-use mathlib.Core.Path.{_≡_, refl, sym, ap, _∙_}
-use mathlib.Core.List.{List, [], _∷_, _++_}
-use native.Mathlib.Nat.{add-comm}
+use mathlib.Core.Path.{_≡_, sym, _∙_}
+use mathlib.Core.List.{List, [], _++_}
 use native.Mathlib.Numerals.{add-one}
 use native.Mathlib.Omega.{arith}
 use borrow.Author.Tests.{lt-leb, le-leb}
-use lib.ListN.{length, take, drop, getD, set, length-append, length-take, drop-of-length-le}
+use lib.ListN.{length, take, drop, getD, set, length-take, drop-of-length-le}
 use lib.Seq.{slice, length-slice, length-take-le, take-all, take-suc, drop-cons, append-snoc, set-at, getD-append-add, getD-drop, getD-take}
 use Rattle.buffer.specs.Buffer.{waiting, movedDown}
 

@@ -2,9 +2,9 @@
 // it: so `read_behind`, `refilled`, `say`, `list_all`, `finish` and `main` promise only what does not depend on it.
 ghost use mathlib.Core.Path.{_≡_};
 ghost use mathlib.Core.Bool.{Bool, true, false};
-ghost use Prim.Native.Nat.{_-_, _≤_};
+ghost use Prim.Native.Nat.{_-_, _≤_, min};
 ghost use lib.Dec.{eqb};
-ghost use lib.ListN.{take};
+ghost use lib.ListN.{length, take};
 ghost use Rattle.number.specs.Number.{numberAt, written};
 ghost use Rattle.recording.specs.Recording.{operationAt};
 ghost use Rattle.readable.specs.Readable.{lineOf};
@@ -60,7 +60,10 @@ fn emptied(mut p: Place) -> Place
 }
 
 // Reads once, behind the first bytes, and answers how many came, 0 at the input's end and below 0 where it cannot be read.
-fn read_behind(input: i32, bytes: &mut [u8], left: usize) -> isize {
+// Those in front stay as they are.
+fn read_behind(input: i32, bytes: &mut [u8], left: usize) -> isize
+    ensures { λ _. ⌜ take (min left (length (now (bytes .entry)))) (now (bytes .exit)) ≡ take left (now (bytes .entry)) ⌝ }
+{
     let start = within(left, bytes);
     libc::read(input, &mut bytes[start..])
 }

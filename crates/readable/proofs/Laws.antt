@@ -1,18 +1,17 @@
 -- Parts of a line one behind another, and how long a line is.
-use Prim.Native.Nat.{ℕ, _+_, _*_, _/_, _%_, _≤_, _<_, min}
-use mathlib.Core.Path.{_≡_, refl, sym, ap, _∙_}
+use Prim.Native.Nat.{ℕ, _+_, _*_, _/_, _%_, _≤_, min}
+use mathlib.Core.Path.{_≡_, sym, _∙_}
 use mathlib.Core.Bool.{Bool, true, false, cond}
-use mathlib.Core.List.{List, [], _∷_, _++_, append-nil, append-assoc}
-use native.Mathlib.Numerals.{add-one}
+use mathlib.Core.List.{List, [], _∷_, _++_}
 use native.Mathlib.Omega.{arith}
 use borrow.Author.Tests.{leb-true}
 use lib.Dec.{eqb, leb}
-use lib.ListN.{length, take, getD, length-append, length-take}
-use lib.Seq.{length-sets, take-suc}
+use lib.ListN.{length, length-append, length-take}
+use lib.Seq.{length-sets}
 use Rattle.number.specs.Number.{written, writtenIf, countIf}
 use Rattle.number.proofs.Laws.{sets-written, written-more}
 use Rattle.number.proofs.Written.{room, written-nothing}
-use Rattle.text.specs.Text.{bytesOfText, decimal}
+use Rattle.text.specs.Text.{decimal}
 use Rattle.text.proofs.Laws.{length-decimal, length-hexadecimal}
 use Rattle.recording.specs.declared.Numbers.{Numbers}
 use Rattle.recording.specs.Recording.{fieldCount, ownNumbers}

@@ -1,12 +1,12 @@
 -- Lengths of what is written, and a store at the end before the stores in front of it.
 use Prim.Native.Nat.{ℕ, zero, suc, _+_, _-_, _/_, _%_, _≤_, _<_}
-use mathlib.Core.Path.{_≡_, refl, sym, _∙_}
+use mathlib.Core.Path.{_≡_, refl, _∙_}
 use mathlib.Core.List.{List, [], _∷_, _++_}
 use mathlib.Core.Logic.{⊎-elim}
 use native.Mathlib.Omega.{arith}
-use borrow.Author.Tests.{lt-ltb, le-ltb, lt-leb, le-leb}
-use lib.ListN.{length, set, length-append, take-append-drop}
-use lib.Seq.{sets, set-comm, length-sets}
+use borrow.Author.Tests.{lt-ltb, le-ltb}
+use lib.ListN.{length, set, length-append}
+use lib.Seq.{sets, set-comm}
 use Rattle.bits.proofs.Cases.{below-or-not}
 use Rattle.text.specs.Text.{digit, digits, digitCount, decimalCount, decimal, hexadecimal}
 

@@ -1,6 +1,6 @@
 -- Two texts of one length are compared to their end, or to the first byte that differs: what is left of them is the same where
 -- they are.
-use Prim.Native.Nat.{_-_, _≤_}
+use Prim.Native.Nat.{_-_}
 use mathlib.Core.Path.{_≡_, refl, _∙_}
 use native.Mathlib.Omega.{arith}
 use lib.ListN.{length, drop}

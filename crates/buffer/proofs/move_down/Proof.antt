@@ -1,7 +1,6 @@
 -- The bytes move within the input, from the first to the last: each is read at or past the place where it is written, and so
 -- still stands there.
 use Prim.Native.Nat.{_-_, _≤_}
-use borrow.Author.Needs.{needs}
 use mathlib.Core.Path.{_≡_, refl, _∙_}
 use native.Mathlib.Omega.{arith}
 use lib.ListN.{length, length-set}

@@ -1,7 +1,7 @@
 -- Digits are counted one a turn: those counted and those of what is left make the digits of n. k is the count still allowed,
 -- and the count grows by no more than the rest falls.
 use Prim.Native.Nat.{ℕ, zero, suc, _+_, _*_, _/_, _^_, _≤_, _<_}
-use mathlib.Core.Path.{_≡_, refl}
+use mathlib.Core.Path.{_≡_}
 use native.Mathlib.Nat.{pow-suc, pow-zero, div-lt-self, div-lt-iff-lt-mul}
 use native.Mathlib.Omega.{arith}
 use borrow.Author.Tests.{lt-ltb, le-ltb}
