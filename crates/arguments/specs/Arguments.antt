@@ -28,16 +28,19 @@ wordOf text =
     (cond (sameText text (bytesOfText "-")) Dash
     (cond (eqb (length text) 0) Name (cond (eqb (getD text 0 0) 45) Option Name))))
 
--- What the arguments so far say, with one thing changed.
+-- What the arguments so far say, with help asked for.
 abbrev pub withHelp : Seen → Seen
 withHelp s = record { help = true; numbers = s .numbers; name = s .name; wrong = s .wrong }
 
+-- The same with --numbers given.
 abbrev pub withNumbers : Seen → Seen
 withNumbers s = record { help = s .help; numbers = true; name = s .name; wrong = s .wrong }
 
+-- The same with the input's name at place i.
 abbrev pub withName : ℕ → Seen → Seen
 withName i s = record { help = s .help; numbers = s .numbers; name = i; wrong = s .wrong }
 
+-- The same with something wrong.
 abbrev pub withWrong : Seen → Seen
 withWrong s = record { help = s .help; numbers = s .numbers; name = s .name; wrong = true }
 
