@@ -1,1 +1,5 @@
 pub mod Text
+pub mod Words
+pub mod Reading
+pub mod Places
+pub mod Content

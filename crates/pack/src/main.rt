@@ -5,192 +5,220 @@ use arguments::look;
 use buffer::ROOM;
 use buffer::flush;
 use buffer::forward;
+use buffer::move_down;
+use buffer::within;
 use libc::STDERR_FILENO;
-use notation::Parser;
+use notation::Begun;
 use notation::Problem;
 use notation::Step;
-use notation::at_end;
-use notation::at_line;
-use notation::byte_step;
+use notation::ended;
+use notation::line_end;
+use notation::none_begun;
+use notation::read_on;
+use notation::separates;
+use notation::whole_words;
 use operation::LAST_CODE;
 use recording::Numbers;
 use recording::field_count;
 use recording::write_operation;
+use std::num::wrapping_add_u64;
+use std::num::wrapping_sub_u64;
 
 // An operation has at most so many bytes: six numbers of ten.
 const LONGEST: usize = 60;
 
-// The reading, how many bytes of the output are waiting, and whether to go on.
+// A message has at most so many bytes of a word.
+const SHOWN: usize = 32;
+
+// What of the text is in its buffer, from `start` to `end`, of it up to `whole` with no word cut off, and where it stands.
 struct Work {
-    parser: Parser,
+    start: usize,
+    whole: usize,
+    end: usize,
+    // The input has no more.
+    over: bool,
+    // A comment is being passed.
+    comment: bool,
+    // The operation that is being read, and how many were read.
+    begun: Begun,
+    operations: u64,
+    // The bytes before the buffer's first, those before the line's first, and the lines before the line.
+    before: u64,
+    line_start: u64,
+    lines: u64,
+    // How many bytes of the output are waiting.
     waiting: usize,
+    // Whether to go on.
     going: bool,
 }
 
-// The kind of operation a code has, as the message names it.
-fn say_kind(code: u64) {
-    match code {
-        0 => io::write_all(STDERR_FILENO, b"a reset"),
-        1 => io::write_all(STDERR_FILENO, b"a branch"),
-        2 => io::write_all(STDERR_FILENO, b"an exception"),
-        3 => io::write_all(STDERR_FILENO, b"a return"),
-        4 => io::write_all(STDERR_FILENO, b"a platform word"),
-        5 => io::write_all(STDERR_FILENO, b"a read"),
-        6 => io::write_all(STDERR_FILENO, b"a write"),
-        _ => io::write_all(STDERR_FILENO, b"a BRB IALL"),
-    }
-    ;
-}
-
-// So many numbers and not the code, the cycles and its fields.
-fn say_count(code: u64, count: u64) {
-    if count < 2 {
-        io::write_all(STDERR_FILENO, b"the cycles are missing\n");
-        return;
-    }
-    say_kind(code);
-    io::write_all(STDERR_FILENO, b" has ");
-    io::print_decimal(STDERR_FILENO, field_count(code));
-    io::write_all(STDERR_FILENO, b" fields, and ");
-    io::print_decimal(STDERR_FILENO, count - 2);
-    io::write_all(STDERR_FILENO, b" stand here\n");
-}
-
-// `pack: line 3: ...`.
-fn say(problem: Problem, line: u64) {
-    io::write_all(STDERR_FILENO, b"pack: line ");
-    io::print_decimal(STDERR_FILENO, line);
-    io::write_all(STDERR_FILENO, b": ");
-    match problem {
-        Problem::NoNumber => {
-            io::write_all(
-                STDERR_FILENO,
-                b"this is no number in decimal or 0x hexadecimal\n",
-            );
+fn turn(
+    input: i32,
+    name: &[u8],
+    bytes: &mut [u8; ROOM],
+    out: &mut [u8; ROOM],
+    w: Work,
+) -> Work {
+    let limit = limit_of(w);
+    if limit <= w.start {
+        if w.over {
+            return finished(name, bytes, out, w);
         }
-        Problem::TooLarge => {
-            io::write_all(STDERR_FILENO, b"a number is above 2^64 - 1\n");
-        }
-        Problem::Code(code) => {
-            io::write_all(STDERR_FILENO, b"a code is at most ");
-            io::print_decimal(STDERR_FILENO, LAST_CODE);
-            io::write_all(STDERR_FILENO, b", and ");
-            io::print_decimal(STDERR_FILENO, code);
-            io::write_all(STDERR_FILENO, b" stands here\n");
-        }
-        Problem::Count(code, count) => {
-            say_count(code, count);
-        }
+        return refilled(input, bytes, w);
     }
-}
-
-// Nothing waits, and no more is read.
-fn ended(parser: Parser) -> Work {
-    Work {
-        parser,
-        waiting: 0,
-        going: false,
+    if w.comment {
+        return commented(bytes, w);
     }
+    operation_read(name, bytes, out, w)
 }
 
-// No more is read; what waits goes out.
-fn stopped(out: &[u8; ROOM], work: Work) -> Work {
-    flush(b"pack", out, work.waiting);
-    ended(work.parser)
+// The end of what can be read.
+fn limit_of(w: Work) -> usize {
+    if w.over | w.comment { w.end } else { w.whole }
 }
 
-// An operation's bytes, behind what waits. No operation that was read is refused: its code is known, and the longest has
-// room.
-fn put(out: &mut [u8; ROOM], waiting: usize, x: Numbers, parser: Parser) -> Work {
-    let Answer::Value(n) = write_operation(out, waiting, x) else {
-        io::write_all(STDERR_FILENO, b"pack: an operation was not written\n");
-        flush(b"pack", out, waiting);
-        return ended(parser);
-    };
-    Work {
-        parser,
-        waiting: forward(waiting, n as usize),
-        going: true,
-    }
+fn stopped(mut w: Work) -> Work {
+    w.going = false;
+    w
 }
 
-// An operation's bytes, where there is room for the longest; what waits goes out before.
-fn put_operation(out: &mut [u8; ROOM], waiting: usize, x: Numbers, parser: Parser) -> Work {
-    if waiting <= ROOM - LONGEST {
-        return put(out, waiting, x, parser);
-    }
-    if flush(b"pack", out, waiting) {
-        return put(out, 0, x, parser);
-    }
-    ended(parser)
+// Reads once, behind the first bytes, and answers how many came, 0 at the input's end and below 0 where it cannot be read.
+fn read_behind(input: i32, bytes: &mut [u8], left: usize) -> isize {
+    let start = within(left, bytes);
+    libc::read(input, &mut bytes[start..])
 }
 
-// What a step of the reading leads to.
-fn after(out: &mut [u8; ROOM], work: Work, result: Step) -> Work {
-    match result {
-        Step::More(parser) => Work {
-            parser,
-            waiting: work.waiting,
-            going: work.going,
-        },
-        Step::Operation(x, parser) => put_operation(out, work.waiting, x, parser),
-        Step::Wrong(problem, line) => {
-            say(problem, line);
-            stopped(out, work)
-        }
-    }
+fn whole_of(bytes: &[u8], end: usize) -> usize {
+    let n = within(end, bytes);
+    whole_words(&bytes[..n])
 }
 
-fn byte_taken(out: &mut [u8; ROOM], work: Work, byte: u8) -> Work {
-    let result = byte_step(work.parser, byte);
-    after(out, work, result)
-}
-
-fn bytes_taken(bytes: &[u8], out: &mut [u8; ROOM], start: Work) -> Work {
-    let mut work = start;
-    let mut i = 0;
-    while i < bytes.len() {
-        if work.going {
-            work = byte_taken(out, work, bytes[i]);
-        }
-        i += 1;
-    }
-    work
-}
-
-// Reads once and takes what came. The text's end ends its last operation.
-fn turn(input: i32, out: &mut [u8; ROOM], work: Work) -> Work {
-    let mut bytes = io::large_buffer();
-    let got = libc::read(input, &mut bytes);
+fn refilled(input: i32, bytes: &mut [u8; ROOM], mut w: Work) -> Work {
+    let left = move_down(bytes, w.start, w.end);
+    let got = read_behind(input, bytes, left);
     if got < 0 {
         os::fail(b"pack: the input cannot be read");
-        return stopped(out, work);
+        return stopped(w);
     }
-    if got == 0 {
-        let last = after(out, work, at_end(work.parser));
-        if last.going {
-            return stopped(out, last);
-        }
-        return last;
-    }
-    let n = io::count(got, &bytes);
-    bytes_taken(&bytes[..n], out, work)
+    let came = io::count(got, bytes);
+    w.before = wrapping_add_u64(w.before, w.start as u64);
+    w.start = 0;
+    w.end = forward(left, came);
+    w.whole = whole_of(bytes, w.end);
+    w.over = got == 0;
+    w
 }
 
-// A proved loop has to end, and nothing says that the input does. So the loop counts its turns down, from a number that
-// no run uses up.
-fn pack_all(input: i32) {
+fn commented(bytes: &[u8; ROOM], mut w: Work) -> Work {
+    let next = comment_end(bytes, w.end, w.start);
+    w.comment = w.end <= next;
+    w.start = next;
+    w
+}
+
+fn comment_end(bytes: &[u8], end: usize, at: usize) -> usize {
+    let n = within(end, bytes);
+    line_end(&bytes[..n], at)
+}
+
+fn read_within(bytes: &[u8], end: usize, at: usize, begun: Begun) -> Step {
+    let n = within(end, bytes);
+    read_on(&bytes[..n], at, begun)
+}
+
+fn byte_at(bytes: &[u8], at: usize) -> u8 {
+    if at < bytes.len() { bytes[at] } else { b'\n' }
+}
+
+fn passed(byte: u8, mut w: Work, at: usize) -> Work {
+    w.begun = none_begun();
+    w.start = forward(at, 1);
+    w.comment = byte == b'#';
+    if byte == b'\n' {
+        w.lines = wrapping_add_u64(w.lines, 1);
+        w.line_start = wrapping_add_u64(w.before, w.start as u64);
+    }
+    w
+}
+
+fn operation_read(name: &[u8], bytes: &[u8; ROOM], out: &mut [u8; ROOM], w: Work) -> Work {
+    match read_within(bytes, limit_of(w), w.start, w.begun) {
+        Step::More(begun) => paused(w, begun),
+        Step::Operation(x, at) => {
+            let byte = byte_at(bytes, at);
+            let next = passed(byte, w, at);
+            put_operation(out, next, x)
+        }
+        Step::Nothing(at) => {
+            let byte = byte_at(bytes, at);
+            passed(byte, w, at)
+        }
+        Step::Wrong(problem, at) => stopped(w),
+    }
+}
+
+fn paused(mut w: Work, begun: Begun) -> Work {
+    w.begun = begun;
+    w.start = limit_of(w);
+    w
+}
+
+fn put_operation(out: &mut [u8; ROOM], mut w: Work, x: Numbers) -> Work {
+    if ROOM - LONGEST < w.waiting {
+        let is_out = flush(b"pack", out, w.waiting);
+        w.waiting = 0;
+        if !is_out {
+            return stopped(w);
+        }
+    }
+    w.operations = wrapping_add_u64(w.operations, 1);
+    w.waiting = put(out, w.waiting, x);
+    w
+}
+
+fn put(out: &mut [u8; ROOM], waiting: usize, x: Numbers) -> usize {
+    let Answer::Value(n) = write_operation(out, waiting, x) else {
+        return waiting;
+    };
+    forward(waiting, n as usize)
+}
+
+fn finished(name: &[u8], bytes: &[u8; ROOM], out: &mut [u8; ROOM], w: Work) -> Work {
+    match ended(w.begun, w.end) {
+        Step::More(_) => stopped(w),
+        Step::Operation(x, _) => {
+            let last = put_operation(out, w, x);
+            stopped(last)
+        }
+        Step::Nothing(_) => stopped(w),
+        Step::Wrong(problem, at) => stopped(w),
+    }
+}
+
+fn pack_all(input: i32, name: &[u8]) {
+    let mut bytes = io::large_buffer();
     let mut out = io::large_buffer();
+    let begun = none_begun();
     let mut work = Work {
-        parser: at_line(1),
+        start: 0,
+        whole: 0,
+        end: 0,
+        over: false,
+        comment: false,
+        begun,
+        operations: 0,
+        before: 0,
+        line_start: 0,
+        lines: 0,
         waiting: 0,
         going: true,
     };
     let mut turns = u64::MAX;
     while turns > 0 && work.going {
-        work = turn(input, &mut out, work);
+        work = turn(input, name, &mut bytes, &mut out, work);
         turns -= 1;
     }
+    flush(b"pack", &out, work.waiting);
 }
 
 fn main() {
@@ -200,7 +228,7 @@ fn main() {
     let input = called.input;
     match input {
         Input::Opened(descriptor) => {
-            pack_all(descriptor);
+            pack_all(descriptor, b"");
             libc::close(descriptor);
         }
         Input::Nothing => {}
