@@ -158,8 +158,9 @@ fn operation_read(name: &[u8], bytes: &[u8; ROOM], out: &mut [u8; ROOM], w: Work
 }
 
 fn paused(mut w: Work, begun: Begun) -> Work {
+    let start = limit_of(w);
     w.begun = begun;
-    w.start = limit_of(w);
+    w.start = start;
     w
 }
 
@@ -195,11 +196,10 @@ fn finished(name: &[u8], bytes: &[u8; ROOM], out: &mut [u8; ROOM], w: Work) -> W
     }
 }
 
-fn pack_all(input: i32, name: &[u8]) {
-    let mut bytes = io::large_buffer();
-    let mut out = io::large_buffer();
+// Before the text's first byte.
+fn at_start() -> Work {
     let begun = none_begun();
-    let mut work = Work {
+    Work {
         start: 0,
         whole: 0,
         end: 0,
@@ -212,13 +212,26 @@ fn pack_all(input: i32, name: &[u8]) {
         lines: 0,
         waiting: 0,
         going: true,
-    };
+    }
+}
+
+// What waits goes out.
+fn finish(out: &[u8; ROOM], w: Work) {
+    flush(b"pack", out, w.waiting);
+}
+
+// A proved loop has to end, and nothing says that the input does. So the loop counts its turns down, from a number that
+// no run uses up.
+fn pack_all(input: i32, name: &[u8]) {
+    let mut bytes = io::large_buffer();
+    let mut out = io::large_buffer();
+    let mut work = at_start();
     let mut turns = u64::MAX;
     while turns > 0 && work.going {
         work = turn(input, name, &mut bytes, &mut out, work);
         turns -= 1;
     }
-    flush(b"pack", &out, work.waiting);
+    finish(&out, work);
 }
 
 fn main() {
