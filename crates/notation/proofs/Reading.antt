@@ -1,5 +1,5 @@
 -- Reading on, part by part: white space, a word, an operation's end.
-use Prim.Native.Nat.{ℕ, suc, _+_, _<_}
+use Prim.Native.Nat.{ℕ, suc, _+_, _≤_, _<_}
 use mathlib.Core.Path.{_≡_, refl, sym, ap, _∙_}
 use mathlib.Core.Bool.{Bool, true, false, _||_}
 use mathlib.Core.Logic.{⊎-elim}
@@ -8,13 +8,17 @@ use native.Mathlib.Nat.{add-zero}
 use native.Mathlib.Omega.{arith}
 use lib.ListN.{length, drop, getD}
 use lib.Seq.{drop-drop}
-use Rattle.bits.proofs.Cases.{either, never}
+use borrow.Author.Tests.{lt-ltb, le-ltb}
+use lib.Dec.{eqb}
+use Rattle.operation.specs.Operation.{lastCode}
+use Rattle.recording.specs.Recording.{fieldCount}
+use Rattle.bits.proofs.Cases.{either, never, below-or-not}
 use Rattle.notation.specs.declared.Begun.{Begun}
 use Rattle.notation.specs.declared.Problem.{Problem}
 use Rattle.notation.specs.declared.Step.{Step}
 use Rattle.notation.specs.declared.Step.the-variants.{More, Wrong}
 use Rattle.notation.specs.Words.{isBlank, endsOperation, separating, wordIn, Meaning, number, wrong, meaningOf}
-use Rattle.notation.specs.Reading.{added, endedAt, readFrom}
+use Rattle.notation.specs.Reading.{added, endedAt, withMeaning, withWord, readFrom, Known}
 use Rattle.notation.proofs.Words.{from-byte, word-goes}
 
 neither : (t u : Bool) → t || u ≡ false → (t ≡ false) × (u ≡ false)
@@ -109,3 +113,50 @@ module _ (s : List ℕ) (at : ℕ) (begun : Begun) (h : at < length s) where
 
     pub wrong-at : (problem : Problem) → meaningOf (wordIn (drop at s)) ≡ wrong problem → readFrom begun [] (drop at s) at ≡ Wrong problem at
     wrong-at problem m = whole ∙ wrong-behind begun (wordIn (drop at s)) at problem some m (behind-word (drop at s))
+
+-- What holds behind each number, and of a wrong word, holds behind a word.
+through-word : (P : Step → Type 0) (begun : Begun) (word : List ℕ) (at : ℕ) (rest : Begun → Step) → ((more : Begun) → P (rest more))
+    → ((problem : Problem) → P (Wrong problem at))
+    → P (withWord begun word at rest)
+through-word P begun [] at rest f g = f begun
+through-word P begun (b ∷ word) at rest f g = go (meaningOf (b ∷ word))
+  where
+    go : (m : Meaning) → P (withMeaning begun at rest m)
+    go (number n) = f (added begun n)
+    go (wrong problem) = g problem
+
+-- No operation that is read has an unknown code.
+pub ended-known : (begun : Begun) (at : ℕ) → Known (endedAt begun at)
+unfolding endedAt
+ended-known begun at x next e =
+    ⊎-elim (λ (z : eqb (begun .count) 0 ≡ true). let t = rw z at e in never (cc))
+    (λ (z : eqb (begun .count) 0 ≡ false).
+    ⊎-elim (λ (u : lastCode < begun .numbers .code). let t = rw (z, lt-ltb lastCode (begun .numbers .code) u) at e in never (cc))
+    (λ (u : begun .numbers .code ≤ lastCode).
+    ⊎-elim (λ (v : eqb (begun .count) (fieldCount (begun .numbers .code) + 2) ≡ true).
+    let t = rw (z, le-ltb lastCode (begun .numbers .code) u, v) at e in let same : begun .numbers ≡ x = cc in rw (← same) u)
+    (λ (v : eqb (begun .count) (fieldCount (begun .numbers .code) + 2) ≡ false).
+    let t = rw (z, le-ltb lastCode (begun .numbers .code) u, v) at e in never (cc))
+    (either (eqb (begun .count) (fieldCount (begun .numbers .code) + 2))))
+    (below-or-not lastCode (begun .numbers .code)))
+    (either (eqb (begun .count) 0))
+
+more-known : (begun : Begun) → Known (More begun)
+more-known begun x at e = never (cc)
+
+wrong-known : (at : ℕ) (problem : Problem) → Known (Wrong problem at)
+wrong-known at problem x next e = never (cc)
+
+pub read-known : (text : List ℕ) (begun : Begun) (word : List ℕ) (at : ℕ) → Known (readFrom begun word text at)
+unfolding readFrom
+read-known [] begun word at = through-word Known begun word at (λ more. More more) more-known (wrong-known at)
+read-known (b ∷ text) begun word at =
+    ⊎-elim (λ (t : isBlank b ≡ true).
+    rw t (through-word Known begun word at (λ more. readFrom more [] text (at + length word + 1))
+    (λ more. read-known text more [] (at + length word + 1)) (wrong-known at)))
+    (λ (t : isBlank b ≡ false).
+    ⊎-elim (λ (u : endsOperation b ≡ true).
+    rw (t, u) (through-word Known begun word at (λ more. endedAt more (at + length word)) (λ more. ended-known more (at + length word)) (wrong-known at)))
+    (λ (u : endsOperation b ≡ false). rw (t, u) (read-known text begun (word ++ (b ∷ [])) at))
+    (either (endsOperation b)))
+    (either (isBlank b))

@@ -1,5 +1,6 @@
 -- An operation in a text: words with white space between them, up to a byte that ends operations. docs/MANUAL.md, "Programs".
-use Prim.Native.Nat.{ℕ, _+_, _-_, _^_, min}
+use Prim.Native.Nat.{ℕ, _+_, _-_, _^_, _≤_, min}
+use mathlib.Core.Path.{_≡_}
 use mathlib.Core.Bool.{cond}
 use mathlib.Core.List.{List, [], _∷_, _++_}
 use lib.Dec.{ltb, eqb}
@@ -55,3 +56,7 @@ readFrom begun word (b ∷ text) at =
     cond (isBlank b) (withWord begun word at (λ more. readFrom more [] text (at + length word + 1)))
     (cond (endsOperation b) (withWord begun word at (λ more. endedAt more (at + length word)))
     (readFrom begun (word ++ (b ∷ [])) text at))
+
+-- What was read has a code that is known.
+abbrev pub Known : Step → Type 0
+Known step = (x : Numbers) (at : ℕ) → step ≡ Operation x at → x .code ≤ lastCode

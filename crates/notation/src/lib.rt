@@ -225,10 +225,7 @@ pub fn none_begun() -> Begun
     ensures { λ r. ⌜ r ≡ noneBegun ⌝ }
 {
     let numbers = Numbers::new(0, 0, 0, 0, 0, 0);
-    Begun {
-        numbers,
-        count: 0,
-    }
+    Begun { numbers, count: 0 }
 }
 
 // The numbers with another at place i. Those past the sixth are only counted.

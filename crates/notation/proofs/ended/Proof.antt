@@ -22,9 +22,15 @@ ended-spec =
     (λ c. omega arith)
     (λ c.
     let begun = c .before .before .before .before .before .before .before .before .args .begun in
-    rw (ne-eqb (begun .count) 0 (omega arith), le-ltb lastCode (begun .numbers .code) (omega arith),
-    ne-eqb (begun .count) (fieldCount (begun .numbers .code) + 2) (omega arith)))
+    rw (
+      ne-eqb (begun .count) 0 (omega arith),
+      le-ltb lastCode (begun .numbers .code) (omega arith),
+      ne-eqb (begun .count) (fieldCount (begun .numbers .code) + 2) (omega arith),
+    ))
     (λ c.
     let begun = c .before .before .before .before .before .before .before .before .args .begun in
-    rw (ne-eqb (begun .count) 0 (omega arith), le-ltb lastCode (begun .numbers .code) (omega arith),
-    eq-eqb (begun .count) (fieldCount (begun .numbers .code) + 2) (omega arith))))
+    rw (
+      ne-eqb (begun .count) 0 (omega arith),
+      le-ltb lastCode (begun .numbers .code) (omega arith),
+      eq-eqb (begun .count) (fieldCount (begun .numbers .code) + 2) (omega arith),
+    )))
