@@ -17,32 +17,14 @@ use Rattle.notation.specs.Words.{endsOperation}
 use Rattle.notation.specs.Reading.{noneBegun, endedAt, readFrom}
 use Rattle.notation.specs.declared.Step.the-variants.{More, Operation}
 use Rattle.packed.specs.Content.{uncommented, onFirst, pieces, complete, Content, inFront, atEnd, contentOfAll, contentOf, packedBytes, numbersLines}
+use Rattle.packed.proofs.Pieces.{uncommented-inside, pieces-before}
 use Rattle.packed.proofs.Lines.{addedAll, read-line, line-made, Inside, nothing, more, inside-line}
-
-neither : (t u : Bool) → t || u ≡ false → (t ≡ false) × (u ≡ false)
-neither true u e = never (cc)
-neither false u e = (refl, e)
-
--- No comment starts inside an operation.
-no-comment : (b : ℕ) → endsOperation b ≡ false → eqb b 35 ≡ false
-no-comment b e = neither (eqb b 35) (eqb b 47) (neither (eqb b 35 || eqb b 47) (eqb b 10) e .0) .0
-
-uncommented-inside : {w : List ℕ} → Inside w → (rest : List ℕ) → uncommented false (w ++ rest) ≡ w ++ uncommented false rest
-unfolding uncommented
-uncommented-inside nothing rest = refl
-uncommented-inside (more {b} {w} e p) rest = rw (no-comment b e) (ap (λ (text : List ℕ). b ∷ text) (uncommented-inside p rest))
-
--- A line's end ends a piece.
-pieces-inside : {w : List ℕ} → Inside w → (rest : List ℕ) → pieces (w ++ (10 ∷ rest)) ≡ w ∷ pieces rest
-unfolding pieces
-pieces-inside nothing rest = refl
-pieces-inside (more {b} {w} e p) rest = rw e (ap (onFirst b) (pieces-inside p rest))
 
 -- What a text holds that has a line in front of it.
 with-line : (w rest : List ℕ) → Inside w
     → contentOf (w ++ (10 ∷ rest)) ≡ inFront (contentOf rest) (atEnd (readFrom noneBegun [] w 0))
 unfolding contentOf contentOfAll uncommented
-with-line w rest p = rw (uncommented-inside p (10 ∷ rest), pieces-inside p (uncommented false rest))
+with-line w rest p = rw (uncommented-inside p (10 ∷ rest), pieces-before p 10 (uncommented false rest) refl)
 
 read-back : (x : Numbers) → Writable x → atEnd (readFrom noneBegun [] (decimal (x .code) ++ spaced (ownNumbers x)) 0) ≡ Operation (ownFields x) 0
 read-back x w = ap atEnd (read-line x w) ∙ line-made x w

@@ -1,3 +1,6 @@
 pub mod Digits
 pub mod Lines
+pub mod Pieces
 pub mod Laws
+pub mod Follows
+pub mod Examples

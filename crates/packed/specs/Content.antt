@@ -6,6 +6,7 @@ use mathlib.Core.List.{List, [], _∷_, _++_}
 use lib.Dec.{eqb}
 use Rattle.recording.specs.declared.Numbers.{Numbers}
 use Rattle.recording.specs.Operations.{recordingBytes}
+use Rattle.notation.specs.declared.Begun.{Begun}
 use Rattle.notation.specs.declared.Problem.{Problem}
 use Rattle.notation.specs.declared.Step.{Step}
 use Rattle.notation.specs.declared.Step.the-variants.{More, Operation, Nothing, Wrong}
@@ -54,6 +55,14 @@ atEnd (Wrong problem at) = Wrong problem at
 unfoldable pub contentOfAll : List (List ℕ) → Content
 contentOfAll [] = record { operations = []; ending = complete }
 contentOfAll (piece ∷ more) = inFront (contentOfAll more) (atEnd (readFrom noneBegun [] piece 0))
+
+-- What a text without comments holds, where of its first operation something was read before.
+unfoldable pub contentFrom : Begun → List ℕ → Content
+contentFrom begun text = behind begun (pieces text)
+  where
+    behind : Begun → List (List ℕ) → Content
+    behind begun [] = contentOfAll []
+    behind begun (piece ∷ more) = inFront (contentOfAll more) (atEnd (readFrom begun [] piece 0))
 
 -- What a text holds.
 unfoldable pub contentOf : List ℕ → Content
