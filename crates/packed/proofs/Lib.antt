@@ -4,3 +4,4 @@ pub mod Pieces
 pub mod Laws
 pub mod Follows
 pub mod Examples
+pub mod Buffers
