@@ -1,1 +1,3 @@
 pub mod Laws
+pub mod Words
+pub mod Reading

@@ -1,1 +1,4 @@
 pub mod Text
+pub mod Words
+pub mod Reading
+pub mod Places

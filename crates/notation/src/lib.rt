@@ -1,39 +1,20 @@
-// Recordings as text (`pack`), byte for byte: a state by value, and a step that takes a byte and answers the state after it.
+// Recordings as text, which `pack` reads: words of digits, cut by white space, and the ends of operations.
 ghost use mathlib.Core.Path.{_≡_};
-ghost use Prim.Native.Nat.{_≤_};
+ghost use mathlib.Core.Bool.{cond};
+ghost use mathlib.Core.List.{[]};
+ghost use Prim.Native.Nat.{_+_, _-_, _<_, _^_, min};
+ghost use lib.ListN.{length, drop, getD, set};
 ghost use Rattle.notation.specs.Text.{digitValue, appended};
+ghost use Rattle.notation.specs.Words.{isBlank, endsOperation, separating, wordIn, digitsOf, prefixed, isPrefixed, meaningOf, wholeWords};
+ghost use Rattle.notation.specs.Reading.{noneBegun, sixOf, ofSix, added, endedAt, readFrom};
+ghost use Rattle.notation.specs.Places.{located, lineLength, Follows};
 use operation::LAST_CODE;
 use recording::Numbers;
 use recording::field_count;
 
-// Where in the text the reading stands.
-pub enum Mode {
-    // Between two numbers.
-    Between,
-    // After a 0 that starts a number: an x may follow.
-    Zero,
-    Decimal,
-    // After 0x: a digit has to follow.
-    Prefix,
-    Hexadecimal,
-    // After a #, to the line's end.
-    Comment,
-}
-
-pub struct Parser {
-    pub mode: Mode,
-    // The number that is being read, so far.
-    pub value: u64,
-    // The operation's numbers so far, and how many they are.
-    pub numbers: Numbers,
-    pub count: u64,
-    // The line, from 1.
-    pub line: u64,
-}
-
 // What is wrong with the text.
 pub enum Problem {
-    // Something that is no number.
+    // A word that is no number.
     NoNumber,
     // A number above 2^64 - 1.
     TooLarge,
@@ -43,13 +24,22 @@ pub enum Problem {
     Count(u64, u64),
 }
 
-// What a byte leads to.
+// An operation that is being read: its numbers so far, and how many they are.
+pub struct Begun {
+    pub numbers: Numbers,
+    pub count: u64,
+}
+
+// What reading on from a place comes to.
 pub enum Step {
-    More(Parser),
-    // An operation ended here.
-    Operation(Numbers, Parser),
-    // The problem, and its line.
-    Wrong(Problem, u64),
+    // The bytes end before the operation does.
+    More(Begun),
+    // An operation, and the place of the byte that ends it.
+    Operation(Numbers, usize),
+    // The place of a byte that ends an operation, with no number before it.
+    Nothing(usize),
+    // What is wrong, and where: the place of the word, or of the byte that ends the operation.
+    Wrong(Problem, usize),
 }
 
 // A number with a digit more.
@@ -59,11 +49,40 @@ pub enum Appended {
     Over,
 }
 
-// Where a number ends, if one was being read.
-enum Number {
-    Ended(Parser),
-    // 0x and no digit.
-    Unfinished,
+// What a word is.
+enum Word {
+    // A number, and the place after it.
+    Number(u64, usize),
+    Wrong(Problem),
+}
+
+// What stands at a place.
+enum Part {
+    // White space or a number: the operation with it, and the place after it.
+    On(Begun, usize),
+    // The operation's end, or a word that is wrong.
+    Done(Step),
+}
+
+// White space inside a line.
+fn is_blank(byte: u8) -> bool
+    ensures { λ r. ⌜ r ≡ isBlank byte ⌝ }
+{
+    (byte == b'\r') | (byte == b'\t') | (byte == b' ')
+}
+
+// What ends an operation: a line's end, a / and the # of a comment.
+fn ends_operation(byte: u8) -> bool
+    ensures { λ r. ⌜ r ≡ endsOperation byte ⌝ }
+{
+    (byte == b'#') | (byte == b'/') | (byte == b'\n')
+}
+
+// What no word holds.
+pub fn separates(byte: u8) -> bool
+    ensures { λ r. ⌜ r ≡ separating byte ⌝ }
+{
+    is_blank(byte) | ends_operation(byte)
 }
 
 // The value of a digit, hexadecimal ones among them, or 16 where the byte is none.
@@ -110,36 +129,109 @@ fn hexadecimal_appended(value: u64, digit: u64) -> Appended
     Appended::Value(value * 16 + digit)
 }
 
+// A number whose digits end at a byte that is none: it has to end the word.
+fn number_before(byte: u8, value: u64, at: usize) -> Word
+    ensures { λ r. ⌜ r ≡ cond (separating byte) (Word.Number value at) (Word.Wrong Problem.NoNumber) ⌝ }
+{
+    if separates(byte) {
+        return Word::Number(value, at);
+    }
+    Word::Wrong(Problem::NoNumber)
+}
+
+fn decimal_at(bytes: &[u8], at: usize) -> Word
+    ensures { λ r. ⌜ r ≡ located (drop at (now (bytes .entry))) at (digitsOf 10 0 (wordIn (drop at (now (bytes .entry))))) ⌝ }
+{
+    let mut value = 0;
+    let mut i = at;
+    while i < bytes.len() {
+        let digit = digit_value(bytes[i]);
+        if 9 < digit {
+            return number_before(bytes[i], value, i);
+        }
+        let Appended::Value(more) = decimal_appended(value, digit) else {
+            return Word::Wrong(Problem::TooLarge);
+        };
+        value = more;
+        i += 1;
+    }
+    Word::Number(value, i)
+}
+
+fn hexadecimal_at(bytes: &[u8], at: usize) -> Word
+    ensures { λ r. ⌜ r ≡ located (drop at (now (bytes .entry))) at (digitsOf 16 0 (wordIn (drop at (now (bytes .entry))))) ⌝ }
+{
+    let mut value = 0;
+    let mut i = at;
+    while i < bytes.len() {
+        let digit = digit_value(bytes[i]);
+        if 15 < digit {
+            return number_before(bytes[i], value, i);
+        }
+        let Appended::Value(more) = hexadecimal_appended(value, digit) else {
+            return Word::Wrong(Problem::TooLarge);
+        };
+        value = more;
+        i += 1;
+    }
+    Word::Number(value, i)
+}
+
+// What follows 0x: at least a digit.
+fn prefixed_at(bytes: &[u8], at: usize) -> Word
+    ensures { λ r. ⌜ r ≡ located (drop at (now (bytes .entry))) at (prefixed (wordIn (drop at (now (bytes .entry))))) ⌝ }
+{
+    if bytes.len() <= at {
+        return Word::Wrong(Problem::NoNumber);
+    }
+    if separates(bytes[at]) {
+        return Word::Wrong(Problem::NoNumber);
+    }
+    hexadecimal_at(bytes, at)
+}
+
+// Whether 0x or 0X stands at a place.
+fn is_prefix(bytes: &[u8], at: usize) -> bool
+    ensures { λ r. ⌜ r ≡ isPrefixed (wordIn (drop at (now (bytes .entry)))) ⌝ }
+{
+    if bytes.len() <= at {
+        return false;
+    }
+    if bytes.len() - at < 2 {
+        return false;
+    }
+    (bytes[at] == b'0') & ((bytes[at + 1] == b'X') | (bytes[at + 1] == b'x'))
+}
+
+// The word at a place.
+fn word_at(bytes: &[u8], at: usize) -> Word
+    ensures { λ r. ⌜ r ≡ located (drop at (now (bytes .entry))) at (meaningOf (wordIn (drop at (now (bytes .entry))))) ⌝ }
+{
+    if is_prefix(bytes, at) {
+        return prefixed_at(bytes, at + 2);
+    }
+    decimal_at(bytes, at)
+}
+
 // One more, and no wrap: no text is so long that this stands still.
-fn one_more(n: u64) -> u64 {
+fn one_more(n: u64) -> u64
+    ensures { λ r. ⌜ r ≡ min (n + 1) (2 ^ 64 - 1) ⌝ }
+{
     if n < u64::MAX { n + 1 } else { n }
 }
 
 // Before the first number of an operation.
-pub fn at_line(line: u64) -> Parser {
+pub fn none_begun() -> Begun
+    ensures { λ r. ⌜ r ≡ noneBegun ⌝ }
+{
     let numbers = Numbers::new(0, 0, 0, 0, 0, 0);
-    Parser {
-        mode: Mode::Between,
-        value: 0,
-        numbers,
-        count: 0,
-        line,
-    }
-}
-
-fn moved(p: Parser, mode: Mode, value: u64) -> Parser {
-    let numbers = p.numbers;
-    Parser {
-        mode,
-        value,
-        numbers,
-        count: p.count,
-        line: p.line,
-    }
+    Begun { numbers, count: 0 }
 }
 
 // The numbers with another at place i. Those past the sixth are only counted.
-fn with_number(x: Numbers, i: u64, n: u64) -> Numbers {
+fn with_number(x: Numbers, i: u64, n: u64) -> Numbers
+    ensures { λ r. ⌜ r ≡ ofSix (set (sixOf x) i n) ⌝ }
+{
     let mut y = x;
     match i {
         0 => {
@@ -165,142 +257,93 @@ fn with_number(x: Numbers, i: u64, n: u64) -> Numbers {
     y
 }
 
-// The number that was being read is one of the operation's.
-fn stored(p: Parser) -> Parser {
-    let mut next = moved(p, Mode::Between, 0);
-    next.numbers = with_number(p.numbers, p.count, p.value);
-    next.count = one_more(p.count);
-    next
-}
-
-fn ended_number(p: Parser) -> Number {
-    let mode = p.mode;
-    match mode {
-        Mode::Between => Number::Ended(p),
-        Mode::Zero => Number::Ended(stored(p)),
-        Mode::Decimal => Number::Ended(stored(p)),
-        Mode::Prefix => Number::Unfinished,
-        Mode::Hexadecimal => Number::Ended(stored(p)),
-        Mode::Comment => Number::Ended(moved(p, Mode::Between, 0)),
+// With a number more.
+fn added(begun: Begun, n: u64) -> Begun
+    ensures { λ r. ⌜ r ≡ added begun n ⌝ }
+{
+    let numbers = with_number(begun.numbers, begun.count, n);
+    Begun {
+        numbers,
+        count: one_more(begun.count),
     }
 }
 
-fn decimal_digit(p: Parser, digit: u64) -> Step {
-    if 9 < digit {
-        return Step::Wrong(Problem::NoNumber, p.line);
-    }
-    match decimal_appended(p.value, digit) {
-        Appended::Value(value) => Step::More(moved(p, Mode::Decimal, value)),
-        Appended::Over => Step::Wrong(Problem::TooLarge, p.line),
-    }
-}
-
-fn hexadecimal_digit(p: Parser, digit: u64) -> Step {
-    match hexadecimal_appended(p.value, digit) {
-        Appended::Value(value) => Step::More(moved(p, Mode::Hexadecimal, value)),
-        Appended::Over => Step::Wrong(Problem::TooLarge, p.line),
-    }
-}
-
-// A digit that starts a number.
-fn first_digit(p: Parser, digit: u64) -> Step {
-    if digit == 0 {
-        return Step::More(moved(p, Mode::Zero, 0));
-    }
-    decimal_digit(p, digit)
-}
-
-fn digit_step(p: Parser, digit: u64) -> Step {
-    let mode = p.mode;
-    match mode {
-        Mode::Between => first_digit(p, digit),
-        Mode::Zero => decimal_digit(p, digit),
-        Mode::Decimal => decimal_digit(p, digit),
-        Mode::Prefix => hexadecimal_digit(p, digit),
-        Mode::Hexadecimal => hexadecimal_digit(p, digit),
-        Mode::Comment => Step::More(p),
-    }
-}
-
-// An x: only after a 0 that starts a number.
-fn x_step(p: Parser) -> Step {
-    let mode = p.mode;
-    match mode {
-        Mode::Between => Step::Wrong(Problem::NoNumber, p.line),
-        Mode::Zero => Step::More(moved(p, Mode::Prefix, 0)),
-        Mode::Decimal => Step::Wrong(Problem::NoNumber, p.line),
-        Mode::Prefix => Step::Wrong(Problem::NoNumber, p.line),
-        Mode::Hexadecimal => Step::Wrong(Problem::NoNumber, p.line),
-        Mode::Comment => Step::More(p),
-    }
-}
-
-// White space or a #, after which this is the mode.
-fn space_step(p: Parser, mode: Mode) -> Step {
-    match ended_number(p) {
-        Number::Ended(q) => Step::More(moved(q, mode, 0)),
-        Number::Unfinished => Step::Wrong(Problem::NoNumber, p.line),
-    }
-}
-
-// The end of an operation, if one was begun, after which the text goes on at this line.
-fn operation_step(p: Parser, line: u64) -> Step {
-    let numbers = p.numbers;
-    if p.count == 0 {
-        return Step::More(at_line(line));
+// An operation that ends at a place: the text's end is one, too.
+pub fn ended(begun: Begun, at: usize) -> Step
+    ensures { λ r. ⌜ r ≡ endedAt begun at ⌝ }
+{
+    let numbers = begun.numbers;
+    if begun.count == 0 {
+        return Step::Nothing(at);
     }
     if LAST_CODE < numbers.code {
-        return Step::Wrong(Problem::Code(numbers.code), p.line);
+        return Step::Wrong(Problem::Code(numbers.code), at);
     }
-    if p.count != field_count(numbers.code) + 2 {
-        return Step::Wrong(Problem::Count(numbers.code, p.count), p.line);
+    if begun.count != field_count(numbers.code) + 2 {
+        return Step::Wrong(Problem::Count(numbers.code, begun.count), at);
     }
-    Step::Operation(numbers, at_line(line))
+    Step::Operation(numbers, at)
 }
 
-fn end_step(p: Parser, line: u64) -> Step {
-    match ended_number(p) {
-        Number::Ended(q) => operation_step(q, line),
-        Number::Unfinished => Step::Wrong(Problem::NoNumber, p.line),
+// What stands next: white space, the operation's end, or a word.
+fn part_at(bytes: &[u8], at: usize, begun: Begun) -> Part
+    requires { ⌜ at < length (now bytes) ⌝ }
+    ensures { λ r. ⌜ Follows (now (bytes .entry)) at begun r ⌝ }
+{
+    let byte = bytes[at];
+    if is_blank(byte) {
+        return Part::On(begun, at + 1);
+    }
+    if ends_operation(byte) {
+        return Part::Done(ended(begun, at));
+    }
+    match word_at(bytes, at) {
+        Word::Number(n, next) => Part::On(added(begun, n), next),
+        Word::Wrong(problem) => Part::Done(Step::Wrong(problem, at)),
     }
 }
 
-fn is_comment(p: Parser) -> bool {
-    let mode = p.mode;
-    match mode {
-        Mode::Between => false,
-        Mode::Zero => false,
-        Mode::Decimal => false,
-        Mode::Prefix => false,
-        Mode::Hexadecimal => false,
-        Mode::Comment => true,
-    }
-}
-
-// The step of a byte.
-pub fn byte_step(p: Parser, byte: u8) -> Step {
-    if byte == b'\n' {
-        return end_step(p, one_more(p.line));
-    }
-    if is_comment(p) {
-        return Step::More(p);
-    }
-    match byte {
-        b'/' => end_step(p, p.line),
-        b'#' => space_step(p, Mode::Comment),
-        b' ' | b'\t' | b'\r' => space_step(p, Mode::Between),
-        b'x' | b'X' => x_step(p),
-        _ => {
-            let digit = digit_value(byte);
-            if digit == 16 {
-                return Step::Wrong(Problem::NoNumber, p.line);
+// Reads on from a place, which is no word's middle, to the operation's end. The bytes' end is the end of a word.
+pub fn read_on(bytes: &[u8], at: usize, begun: Begun) -> Step
+    ensures { λ r. ⌜ r ≡ readFrom begun [] (drop at (now (bytes .entry))) at ⌝ }
+{
+    let mut so_far = begun;
+    let mut i = at;
+    while i < bytes.len() {
+        match part_at(bytes, i, so_far) {
+            Part::On(more, next) => {
+                so_far = more;
+                i = next;
             }
-            digit_step(p, digit)
+            Part::Done(step) => {
+                return step;
+            }
         }
     }
+    Step::More(so_far)
 }
 
-// The text's end is a line's end.
-pub fn at_end(p: Parser) -> Step {
-    end_step(p, p.line)
+// The place of the line's end, from a place on, or the bytes' end: a comment ends there.
+pub fn line_end(bytes: &[u8], at: usize) -> usize
+    ensures { λ r. ⌜ r ≡ at + lineLength (drop at (now (bytes .entry))) ⌝ }
+{
+    let mut i = at;
+    while i < bytes.len() && bytes[i] != b'\n' {
+        i += 1;
+    }
+    i
+}
+
+// How many bytes there are up to the last that separates words: what is behind them may be a word's beginning.
+pub fn whole_words(bytes: &[u8]) -> usize
+    ensures { λ r. ⌜ r ≡ wholeWords (now (bytes .entry)) (length (now (bytes .entry))) ⌝ }
+{
+    let mut k = bytes.len();
+    while 0 < k {
+        if separates(bytes[k - 1]) {
+            return k;
+        }
+        k -= 1;
+    }
+    0
 }

@@ -1,206 +1,328 @@
 // Numbers as text, to a recording on standard output.
+mod messages;
+
+ghost use mathlib.Core.Path.{_≡_};
+ghost use Prim.Native.Nat.{_+_, _≤_};
+ghost use lib.ListN.{length};
+ghost use Rattle.number.specs.Number.{written};
+ghost use Rattle.operation.specs.Operation.{lastCode};
+ghost use Rattle.recording.specs.declared.Numbers.{Numbers};
+ghost use Rattle.recording.specs.Recording.{operationBytes};
+ghost use Rattle.notation.specs.Reading.{Known};
 use answer::Answer;
 use arguments::Input;
 use arguments::look;
 use buffer::ROOM;
 use buffer::flush;
 use buffer::forward;
-use libc::STDERR_FILENO;
-use notation::Parser;
+use buffer::move_down;
+use buffer::within;
+use messages::Spot;
+use messages::has_lone_return;
+use messages::report;
+use notation::Begun;
 use notation::Problem;
 use notation::Step;
-use notation::at_end;
-use notation::at_line;
-use notation::byte_step;
-use operation::LAST_CODE;
+use notation::ended;
+use notation::line_end;
+use notation::none_begun;
+use notation::read_on;
+use notation::whole_words;
 use recording::Numbers;
-use recording::field_count;
 use recording::write_operation;
+use std::num::wrapping_add_u64;
+use std::num::wrapping_sub_u64;
 
 // An operation has at most so many bytes: six numbers of ten.
 const LONGEST: usize = 60;
 
-// The reading, how many bytes of the output are waiting, and whether to go on.
+// What of the text is in its buffer, from `start` to `end`, of it up to `whole` with no word cut off, and where it stands.
 struct Work {
-    parser: Parser,
+    start: usize,
+    whole: usize,
+    end: usize,
+    // The input has no more.
+    over: bool,
+    // A comment is being passed.
+    comment: bool,
+    // The operation that is being read, and how many went before it.
+    begun: Begun,
+    operations: u64,
+    // A carriage return that ends no line stands in what was read of it.
+    returned: bool,
+    // The bytes before the buffer's first, those before the line's first, and the lines before the line.
+    before: u64,
+    line_start: u64,
+    lines: u64,
+    // How many bytes of the output are waiting.
     waiting: usize,
+    // Whether to go on.
     going: bool,
 }
 
-// The kind of operation a code has, as the message names it.
-fn say_kind(code: u64) {
-    match code {
-        0 => io::write_all(STDERR_FILENO, b"a reset"),
-        1 => io::write_all(STDERR_FILENO, b"a branch"),
-        2 => io::write_all(STDERR_FILENO, b"an exception"),
-        3 => io::write_all(STDERR_FILENO, b"a return"),
-        4 => io::write_all(STDERR_FILENO, b"a platform word"),
-        5 => io::write_all(STDERR_FILENO, b"a read"),
-        6 => io::write_all(STDERR_FILENO, b"a write"),
-        _ => io::write_all(STDERR_FILENO, b"a BRB IALL"),
+// Nothing more is read.
+fn stopped(mut w: Work) -> Work {
+    w.going = false;
+    w
+}
+
+// The same, with nothing that waits.
+fn emptied(mut w: Work) -> Work {
+    w.waiting = 0;
+    stopped(w)
+}
+
+// The end of what can be read: a word may go on behind the last that separates words, and a comment may not.
+fn limit_of(w: Work) -> usize {
+    if w.over | w.comment { w.end } else { w.whole }
+}
+
+// The byte at a place; past them all, a line's end.
+fn byte_at(bytes: &[u8], at: usize) -> u8 {
+    if at < bytes.len() { bytes[at] } else { b'\n' }
+}
+
+// Reads once, behind the first bytes, and answers how many came, 0 at the input's end and below 0 where it cannot be read.
+fn read_behind(input: i32, bytes: &mut [u8], left: usize) -> isize {
+    let start = within(left, bytes);
+    libc::read(input, &mut bytes[start..])
+}
+
+// How many of the bytes up to `end` hold whole words.
+fn whole_of(bytes: &[u8], end: usize) -> usize {
+    let n = within(end, bytes);
+    whole_words(&bytes[..n])
+}
+
+// Where the zeros at a place end.
+fn zeros_end(bytes: &[u8], at: usize) -> usize {
+    let mut i = at;
+    while i < bytes.len() && bytes[i] == b'0' {
+        i += 1;
     }
-    ;
+    i
 }
 
-// So many numbers and not the code, the cycles and its fields.
-fn say_count(code: u64, count: u64) {
-    if count < 2 {
-        io::write_all(STDERR_FILENO, b"the cycles are missing\n");
-        return;
+// Whether the bytes start with 0x.
+fn is_hexadecimal(bytes: &[u8; ROOM]) -> bool {
+    (bytes[1] == b'X') | (bytes[1] == b'x')
+}
+
+// A word that fills the buffer. Of many zeros in front three do as well. With few it is no number below 2^64, whatever
+// follows, and is read as it stands.
+fn shortened(bytes: &mut [u8; ROOM], mut w: Work) -> Work {
+    let hexadecimal = is_hexadecimal(bytes);
+    let first = if hexadecimal { 2 } else { 0 };
+    let past = zeros_end(bytes, first);
+    if past < 16 {
+        w.whole = w.end;
+        return w;
     }
-    say_kind(code);
-    io::write_all(STDERR_FILENO, b" has ");
-    io::print_decimal(STDERR_FILENO, field_count(code));
-    io::write_all(STDERR_FILENO, b" fields, and ");
-    io::print_decimal(STDERR_FILENO, count - 2);
-    io::write_all(STDERR_FILENO, b" stand here\n");
+    let kept = past - 3;
+    w.end = move_down(bytes, kept, ROOM);
+    w.before = wrapping_add_u64(w.before, kept as u64);
+    if hexadecimal {
+        bytes[1] = b'x';
+    }
+    w
 }
 
-// `pack: line 3: ...`.
-fn say(problem: Problem, line: u64) {
-    io::write_all(STDERR_FILENO, b"pack: line ");
-    io::print_decimal(STDERR_FILENO, line);
-    io::write_all(STDERR_FILENO, b": ");
-    match problem {
-        Problem::NoNumber => {
-            io::write_all(
-                STDERR_FILENO,
-                b"this is no number in decimal or 0x hexadecimal\n",
-            );
-        }
-        Problem::TooLarge => {
-            io::write_all(STDERR_FILENO, b"a number is above 2^64 - 1\n");
-        }
-        Problem::Code(code) => {
-            io::write_all(STDERR_FILENO, b"a code is at most ");
-            io::print_decimal(STDERR_FILENO, LAST_CODE);
-            io::write_all(STDERR_FILENO, b", and ");
-            io::print_decimal(STDERR_FILENO, code);
-            io::write_all(STDERR_FILENO, b" stands here\n");
-        }
-        Problem::Count(code, count) => {
-            say_count(code, count);
-        }
+// The rest of the buffer at its front, and behind it what is read at once.
+fn refilled(input: i32, bytes: &mut [u8; ROOM], mut w: Work) -> Work {
+    w.before = wrapping_add_u64(w.before, w.start as u64);
+    let left = move_down(bytes, w.start, w.end);
+    w.start = 0;
+    if left == ROOM {
+        return shortened(bytes, w);
+    }
+    let got = read_behind(input, bytes, left);
+    if got < 0 {
+        os::fail(b"pack: the input cannot be read");
+        return stopped(w);
+    }
+    let came = io::count(got, bytes);
+    w.end = forward(left, came);
+    w.whole = whole_of(bytes, w.end);
+    w.over = got == 0;
+    w
+}
+
+fn comment_end(bytes: &[u8], end: usize, at: usize) -> usize {
+    let n = within(end, bytes);
+    line_end(&bytes[..n], at)
+}
+
+// Passes a comment, up to its line's end or that of the buffer.
+fn commented(bytes: &[u8; ROOM], mut w: Work) -> Work {
+    let next = comment_end(bytes, w.end, w.start);
+    w.comment = w.end <= next;
+    w.start = next;
+    w
+}
+
+// Behind the byte that ended an operation, or nothing.
+fn passed(byte: u8, mut w: Work, at: usize) -> Work {
+    let begun = none_begun();
+    w.begun = begun;
+    w.start = forward(at, 1);
+    w.comment = byte == b'#';
+    w.returned = false;
+    if byte == b'\n' {
+        w.lines = wrapping_add_u64(w.lines, 1);
+        w.line_start = wrapping_add_u64(w.before, w.start as u64);
+    }
+    w
+}
+
+// What can be read has ended inside an operation.
+fn paused(bytes: &[u8; ROOM], mut w: Work, begun: Begun) -> Work {
+    let start = limit_of(w);
+    w.returned = w.returned | has_lone_return(bytes, w.start, start);
+    w.begun = begun;
+    w.start = start;
+    w
+}
+
+// An operation's bytes behind what waits, and how many wait then. None is refused: its code is known, and it has room.
+fn put(out: &mut [u8; ROOM], waiting: usize, x: Numbers) -> usize
+    requires { ⌜ (x .code ≤ lastCode) × (waiting + 60 ≤ 65536) ⌝ }
+    ensures { λ r. ⌜ r ≡ waiting + length (operationBytes x) ⌝ }
+    ensures { λ _. ⌜ now (out .exit) ≡ written (now (out .entry)) waiting (operationBytes x) ⌝ }
+{
+    match write_operation(out, waiting, x) {
+        Answer::Value(n) => waiting + n as usize,
+        _ => waiting,
     }
 }
 
-// Nothing waits, and no more is read.
-fn ended(parser: Parser) -> Work {
-    Work {
-        parser,
-        waiting: 0,
-        going: false,
+// The same, where what waits goes out first if an operation might have no room.
+fn put_operation(out: &mut [u8; ROOM], mut w: Work, x: Numbers) -> Work
+    requires { ⌜ x .code ≤ lastCode ⌝ }
+{
+    w.operations = wrapping_add_u64(w.operations, 1);
+    if w.waiting <= ROOM - LONGEST {
+        w.waiting = put(out, w.waiting, x);
+        return w;
     }
+    if !flush(b"pack", out, w.waiting) {
+        return emptied(w);
+    }
+    w.waiting = put(out, 0, x);
+    w
 }
 
-// No more is read; what waits goes out.
-fn stopped(out: &[u8; ROOM], work: Work) -> Work {
-    flush(b"pack", out, work.waiting);
-    ended(work.parser)
-}
-
-// An operation's bytes, behind what waits. No operation that was read is refused: its code is known, and the longest has
-// room.
-fn put(out: &mut [u8; ROOM], waiting: usize, x: Numbers, parser: Parser) -> Work {
-    let Answer::Value(n) = write_operation(out, waiting, x) else {
-        io::write_all(STDERR_FILENO, b"pack: an operation was not written\n");
-        flush(b"pack", out, waiting);
-        return ended(parser);
+// Says what is wrong at a place, and reads no more.
+fn refused(name: &[u8], bytes: &[u8], w: Work, problem: Problem, at: usize) -> Work {
+    let n = within(w.end, bytes);
+    let place = wrapping_add_u64(w.before, at as u64);
+    let spot = Spot {
+        line: wrapping_add_u64(w.lines, 1),
+        column: wrapping_add_u64(wrapping_sub_u64(place, w.line_start), 1),
+        operation: wrapping_add_u64(w.operations, 1),
     };
+    let returned = w.returned | has_lone_return(bytes, w.start, at);
+    report(name, spot, &bytes[..n], returned, at, problem);
+    stopped(w)
+}
+
+fn read_within(bytes: &[u8], end: usize, at: usize, begun: Begun) -> Step
+    ensures { λ r. ⌜ Known r ⌝ }
+{
+    let n = within(end, bytes);
+    read_on(&bytes[..n], at, begun)
+}
+
+// Reads on to the end of the operation, or of what can be read.
+fn operation_read(name: &[u8], bytes: &[u8; ROOM], out: &mut [u8; ROOM], w: Work) -> Work {
+    match read_within(bytes, limit_of(w), w.start, w.begun) {
+        Step::More(begun) => paused(bytes, w, begun),
+        Step::Operation(x, at) => {
+            let next = passed(byte_at(bytes, at), w, at);
+            put_operation(out, next, x)
+        }
+        Step::Nothing(at) => passed(byte_at(bytes, at), w, at),
+        Step::Wrong(problem, at) => refused(name, bytes, w, problem, at),
+    }
+}
+
+// The text's end ends its last operation.
+fn finished(name: &[u8], bytes: &[u8; ROOM], out: &mut [u8; ROOM], w: Work) -> Work {
+    match ended(w.begun, w.end) {
+        Step::More(_) => stopped(w),
+        Step::Operation(x, _) => stopped(put_operation(out, w, x)),
+        Step::Nothing(_) => stopped(w),
+        Step::Wrong(problem, at) => refused(name, bytes, w, problem, at),
+    }
+}
+
+// Reads on, passes a comment, or reads more of the text.
+fn turn(input: i32, name: &[u8], bytes: &mut [u8; ROOM], out: &mut [u8; ROOM], w: Work) -> Work {
+    if limit_of(w) <= w.start {
+        if w.over {
+            return finished(name, bytes, out, w);
+        }
+        return refilled(input, bytes, w);
+    }
+    if w.comment {
+        return commented(bytes, w);
+    }
+    operation_read(name, bytes, out, w)
+}
+
+// Before the text's first byte.
+fn at_start() -> Work {
+    let begun = none_begun();
     Work {
-        parser,
-        waiting: forward(waiting, n as usize),
+        start: 0,
+        whole: 0,
+        end: 0,
+        over: false,
+        comment: false,
+        begun,
+        operations: 0,
+        returned: false,
+        before: 0,
+        line_start: 0,
+        lines: 0,
+        waiting: 0,
         going: true,
     }
 }
 
-// An operation's bytes, where there is room for the longest; what waits goes out before.
-fn put_operation(out: &mut [u8; ROOM], waiting: usize, x: Numbers, parser: Parser) -> Work {
-    if waiting <= ROOM - LONGEST {
-        return put(out, waiting, x, parser);
-    }
-    if flush(b"pack", out, waiting) {
-        return put(out, 0, x, parser);
-    }
-    ended(parser)
-}
-
-// What a step of the reading leads to.
-fn after(out: &mut [u8; ROOM], work: Work, result: Step) -> Work {
-    match result {
-        Step::More(parser) => Work {
-            parser,
-            waiting: work.waiting,
-            going: work.going,
-        },
-        Step::Operation(x, parser) => put_operation(out, work.waiting, x, parser),
-        Step::Wrong(problem, line) => {
-            say(problem, line);
-            stopped(out, work)
-        }
-    }
-}
-
-fn byte_taken(out: &mut [u8; ROOM], work: Work, byte: u8) -> Work {
-    let result = byte_step(work.parser, byte);
-    after(out, work, result)
-}
-
-fn bytes_taken(bytes: &[u8], out: &mut [u8; ROOM], start: Work) -> Work {
-    let mut work = start;
-    let mut i = 0;
-    while i < bytes.len() {
-        if work.going {
-            work = byte_taken(out, work, bytes[i]);
-        }
-        i += 1;
-    }
-    work
-}
-
-// Reads once and takes what came. The text's end ends its last operation.
-fn turn(input: i32, out: &mut [u8; ROOM], work: Work) -> Work {
-    let mut bytes = io::large_buffer();
-    let got = libc::read(input, &mut bytes);
-    if got < 0 {
-        os::fail(b"pack: the input cannot be read");
-        return stopped(out, work);
-    }
-    if got == 0 {
-        let last = after(out, work, at_end(work.parser));
-        if last.going {
-            return stopped(out, last);
-        }
-        return last;
-    }
-    let n = io::count(got, &bytes);
-    bytes_taken(&bytes[..n], out, work)
+// What waits goes out.
+fn finish(out: &[u8; ROOM], w: Work) {
+    flush(b"pack", out, w.waiting);
 }
 
 // A proved loop has to end, and nothing says that the input does. So the loop counts its turns down, from a number that
 // no run uses up.
-fn pack_all(input: i32) {
+fn pack_all(input: i32, name: &[u8]) {
+    let mut bytes = io::large_buffer();
     let mut out = io::large_buffer();
-    let mut work = Work {
-        parser: at_line(1),
-        waiting: 0,
-        going: true,
-    };
+    let mut work = at_start();
     let mut turns = u64::MAX;
     while turns > 0 && work.going {
-        work = turn(input, &mut out, work);
+        work = turn(input, name, &mut bytes, &mut out, work);
         turns -= 1;
     }
+    finish(&out, work);
+}
+
+// The first argument is the input's name: the program has no option but --help.
+fn pack_named(input: i32) {
+    let mut name = io::buffer();
+    let length = os::arg(1, &mut name);
+    pack_all(input, &name[..length]);
 }
 
 fn main() {
     let usage =
-        b"usage: pack [FILE]\n\nWrites a recording to standard output from numbers in FILE, or in standard input where FILE is - or missing.\n\nNumbers are decimal, or hexadecimal after 0x, and white space is between them. A / or a line's end ends an\noperation, # starts a comment. An operation is its code, the cycles passed since the one before, and its fields:\n\n  0 reset      size v1p1\n  1 branch     type mispredicted source target\n  2 exception  type target-level source target\n  3 return     target-level mispredicted source target\n  4 platform   P\n  5 read       register\n  6 write      register value\n  7 BRB IALL\n\nWhat is wrong with the text is said on standard error with its line, and the recording ends before that operation.\n";
+        b"usage: pack [FILE]\n\nWrites a recording to standard output from numbers in FILE, or in standard input where FILE is - or missing.\n\nNumbers are decimal, or hexadecimal after 0x, and white space is between them. A / or a line's end ends an\noperation, # starts a comment. An operation is its code, the cycles passed since the one before, and its fields:\n\n  0 reset      size v1p1\n  1 branch     type mispredicted source target\n  2 exception  type target-level source target\n  3 return     target-level mispredicted source target\n  4 platform   P\n  5 read       register\n  6 write      register value\n  7 BRB IALL\n\nWhat is wrong with the text is said on standard error with its line, column and operation, and the recording ends before that operation.\n";
     let called = look(b"pack", usage, false);
     let input = called.input;
     match input {
         Input::Opened(descriptor) => {
-            pack_all(descriptor);
+            pack_named(descriptor);
             libc::close(descriptor);
         }
         Input::Nothing => {}
