@@ -19,10 +19,11 @@ use Rattle.notation.specs.Words.{isBlank, endsOperation, Meaning, number
 abbrev pub noneBegun : Begun
 noneBegun = record { numbers = numbers 0 0 0 0 0 0; count = 0 }
 
--- Six numbers as a list, and back.
+-- The six numbers of an operation, as a list.
 abbrev pub sixOf : Numbers → List ℕ
 sixOf x = x .code ∷ x .cycles ∷ x .a ∷ x .b ∷ x .c ∷ x .d ∷ []
 
+-- Six numbers of a list, as an operation.
 abbrev pub ofSix : List ℕ → Numbers
 ofSix list = numbersOf (getD list 0 0) (drop 1 list)
 

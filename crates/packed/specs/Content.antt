@@ -46,12 +46,14 @@ inFront rest (Nothing at) = rest
 inFront rest (Wrong problem at) = record { operations = []; ending = stopped problem }
 inFront rest (More begun) = rest
 
+-- What reading a piece came to, where the piece ends: an operation that was begun ends there.
 abbrev pub atEnd : Step → Step
 atEnd (More begun) = endedAt begun 0
 atEnd (Operation x at) = Operation x at
 atEnd (Nothing at) = Nothing at
 atEnd (Wrong problem at) = Wrong problem at
 
+-- What some pieces hold, one after another.
 unfoldable pub contentOfAll : List (List ℕ) → Content
 contentOfAll [] = record { operations = []; ending = complete }
 contentOfAll (piece ∷ more) = inFront (contentOfAll more) (atEnd (readFrom noneBegun [] piece 0))
