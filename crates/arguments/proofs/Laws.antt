@@ -1,7 +1,7 @@
 -- Two texts, byte for byte.
 use Prim.Native.Nat.{ℕ, suc, _+_, _≤_, _<_}
 use mathlib.Core.Path.{_≡_, refl, sym, ap, _∙_}
-use mathlib.Core.Bool.{Bool, true, false, _&&_}
+use mathlib.Core.Bool.{Bool, true, false, cond, _&&_}
 use mathlib.Core.List.{List, [], _∷_}
 use native.Mathlib.Numerals.{add-one}
 use native.Mathlib.Omega.{arith}
@@ -9,7 +9,8 @@ use borrow.Author.Tests.{eq-eqb, ne-eqb}
 use lib.Dec.{eqb}
 use lib.ListN.{length, drop, getD, drop-of-length-le}
 use lib.Seq.{drop-cons}
-use Rattle.arguments.specs.Arguments.{sameText}
+use Rattle.arguments.specs.declared.Seen.{Seen}
+use Rattle.arguments.specs.Arguments.{sameText, wordOf, withInput, withWord, withText}
 
 -- Texts of different lengths are not the same.
 pub other-length : (a b : List ℕ) → (length a ≡ length b → ⊥) → false ≡ sameText a b
@@ -39,3 +40,14 @@ module _ (a b : List ℕ) (i : ℕ) (long : length a ≡ length b) where
   pub same-end : length a ≤ i → true ≡ sameText (drop i a) (drop i b)
   unfolding sameText
   same-end h = rw (drop-of-length-le a h, drop-of-length-le b {i = i} (omega arith))
+
+-- Behind -- and elsewhere.
+module _ (numbers : Bool) (i : ℕ) (text : List ℕ) (s : Seen) where
+  chosen : {t : Bool} → s .rest ≡ t → withText numbers i text s ≡ cond t (withInput i s) (withWord numbers i (wordOf text) s)
+  chosen h = ap (λ t. cond t (withInput i s) (withWord numbers i (wordOf text) s)) h
+
+  pub a-name : s .rest ≡ true → withInput i s ≡ withText numbers i text s
+  a-name h = sym (chosen h)
+
+  pub a-word : s .rest ≡ false → withWord numbers i (wordOf text) s ≡ withText numbers i text s
+  a-word h = sym (chosen h)

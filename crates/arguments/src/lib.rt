@@ -2,10 +2,12 @@
 // of an argument decide is promised. What only the system tells is not, since no contract can name it: which arguments there
 // are, whether a file opens, and what is written.
 ghost use mathlib.Core.Path.{_≡_};
-ghost use Rattle.arguments.specs.Arguments.{sameText, wordOf, withHelp, withNumbers, withWrong, withInput, withWord, nextOf, sourceOf};
+ghost use Rattle.arguments.specs.Arguments.{sameText, optionOf, wordOf, withHelp, withVersion, withNumbers, withRest, withWrong, withInput, withWord, withText, nextOf, sourceOf};
 use libc::STDERR_FILENO;
 use libc::STDIN_FILENO;
 use libc::STDOUT_FILENO;
+use message::say_input;
+use message::say_shown;
 
 // What a program is to read.
 pub enum Input {
@@ -19,12 +21,17 @@ pub struct Called {
     pub input: Input,
     // `--numbers` was given.
     pub numbers: bool,
+    // The place of the input's name among the arguments; 0, the program's own, where none was given.
+    pub name: usize,
 }
 
 // What one argument is.
 enum Word {
     Help,
+    Version,
     Numbers,
+    // `--`: what comes behind it are no options.
+    Rest,
     // `-`: standard input.
     Dash,
     Option,
@@ -34,7 +41,10 @@ enum Word {
 // What the arguments so far say.
 struct Seen {
     help: bool,
+    version: bool,
     numbers: bool,
+    // `--` was given.
+    rest: bool,
     // The place of the input's name among the arguments; 0, the program's own, while there is none.
     name: usize,
     // A message was written: nothing is to be read.
@@ -46,6 +56,8 @@ enum Next {
     Stop,
     // It prints how it is used.
     Usage,
+    // It prints its version.
+    Version,
     // It opens the input whose name stands at this place.
     Open(usize),
 }
@@ -75,23 +87,39 @@ fn same(a: &[u8], b: &[u8]) -> bool
     true
 }
 
-fn word_of(text: &[u8]) -> Word
-    ensures { λ r. ⌜ r ≡ wordOf (now (text .entry)) ⌝ }
+// What an argument is that starts with `-`.
+fn option_of(text: &[u8]) -> Word
+    ensures { λ r. ⌜ r ≡ optionOf (now (text .entry)) ⌝ }
 {
     if same(text, b"--help") {
         return Word::Help;
     }
+    if same(text, b"-h") {
+        return Word::Help;
+    }
+    if same(text, b"--version") {
+        return Word::Version;
+    }
     if same(text, b"--numbers") {
         return Word::Numbers;
+    }
+    if same(text, b"--") {
+        return Word::Rest;
     }
     if same(text, b"-") {
         return Word::Dash;
     }
+    Word::Option
+}
+
+fn word_of(text: &[u8]) -> Word
+    ensures { λ r. ⌜ r ≡ wordOf (now (text .entry)) ⌝ }
+{
     if text.len() == 0 {
         return Word::Name;
     }
     if text[0] == b'-' {
-        return Word::Option;
+        return option_of(text);
     }
     Word::Name
 }
@@ -101,7 +129,7 @@ fn complain(program: &[u8], what: &[u8], text: &[u8]) {
     io::write_all(STDERR_FILENO, program);
     io::write_all(STDERR_FILENO, b": ");
     io::write_all(STDERR_FILENO, what);
-    io::write_all(STDERR_FILENO, text);
+    say_shown(text);
     io::write_all(STDERR_FILENO, b"; try --help\n");
 }
 
@@ -132,6 +160,13 @@ fn helped(mut seen: Seen) -> Seen
     seen
 }
 
+fn versioned(mut seen: Seen) -> Seen
+    ensures { λ r. ⌜ r ≡ withVersion seen ⌝ }
+{
+    seen.version = true;
+    seen
+}
+
 fn numbered(mut seen: Seen) -> Seen
     ensures { λ r. ⌜ r ≡ withNumbers seen ⌝ }
 {
@@ -139,12 +174,21 @@ fn numbered(mut seen: Seen) -> Seen
     seen
 }
 
-// What the arguments say with the one at place i, whose text this is. `numbers`: the program has that option.
-fn with_text(program: &[u8], numbers: bool, i: usize, text: &[u8], seen: Seen) -> Seen
+fn rested(mut seen: Seen) -> Seen
+    ensures { λ r. ⌜ r ≡ withRest seen ⌝ }
+{
+    seen.rest = true;
+    seen
+}
+
+// What the arguments say with the one at place i, whose text this is, where options may stand. `numbers`: the program has
+// that option.
+fn with_word(program: &[u8], numbers: bool, i: usize, text: &[u8], seen: Seen) -> Seen
     ensures { λ r. ⌜ r ≡ withWord numbers i (wordOf (now (text .entry))) seen ⌝ }
 {
     match word_of(text) {
         Word::Help => helped(seen),
+        Word::Version => versioned(seen),
         Word::Numbers => {
             if numbers {
                 numbered(seen)
@@ -152,10 +196,21 @@ fn with_text(program: &[u8], numbers: bool, i: usize, text: &[u8], seen: Seen) -
                 refuse(program, b"unknown option ", text, seen)
             }
         }
+        Word::Rest => rested(seen),
         Word::Dash => named(program, i, text, seen),
         Word::Option => refuse(program, b"unknown option ", text, seen),
         Word::Name => named(program, i, text, seen),
     }
+}
+
+// The same anywhere: behind `--` every argument is a name.
+fn with_text(program: &[u8], numbers: bool, i: usize, text: &[u8], seen: Seen) -> Seen
+    ensures { λ r. ⌜ r ≡ withText numbers i (now (text .entry)) seen ⌝ }
+{
+    if seen.rest {
+        return named(program, i, text, seen);
+    }
+    with_word(program, numbers, i, text, seen)
 }
 
 // The same for the argument at place i, which has to be read first.
@@ -172,7 +227,9 @@ fn with_argument(program: &[u8], numbers: bool, i: usize, seen: Seen) -> Seen {
 fn all_arguments(program: &[u8], numbers: bool) -> Seen {
     let mut seen = Seen {
         help: false,
+        version: false,
         numbers: false,
+        rest: false,
         name: 0,
         wrong: false,
     };
@@ -203,14 +260,22 @@ fn source_of(i: usize, name: &[u8]) -> Source
     Source::File
 }
 
-// The file of this name. The program's name goes in front of the system's text.
+// Says what the system has against a file.
+fn unread(program: &[u8], name: &[u8]) -> Input {
+    say_input(program, name);
+    os::fail(b"");
+    Input::Nothing
+}
+
+// The file of this name. A folder is opened as well, and tells only when it is read, if no byte is asked for too.
 fn open_file(program: &[u8], name: &[u8]) -> Input {
     let descriptor = os::open_read(name);
     if descriptor < 0 {
-        io::write_all(STDERR_FILENO, program);
-        io::write_all(STDERR_FILENO, b": ");
-        os::fail(name);
-        return Input::Nothing;
+        return unread(program, name);
+    }
+    let mut nothing = io::buffer();
+    if libc::read(descriptor, &mut nothing[..0]) < 0 {
+        return unread(program, name);
     }
     Input::Opened(descriptor)
 }
@@ -239,6 +304,9 @@ fn next_of(seen: Seen) -> Next
     if seen.help {
         return Next::Usage;
     }
+    if seen.version {
+        return Next::Version;
+    }
     Next::Open(seen.name)
 }
 
@@ -250,17 +318,23 @@ fn input_for(program: &[u8], usage: &[u8], next: Next) -> Input {
             io::write_all(STDOUT_FILENO, usage);
             Input::Nothing
         }
+        Next::Version => {
+            io::write_all(STDOUT_FILENO, program);
+            io::write_all(STDOUT_FILENO, b" 0.1.0\n");
+            Input::Nothing
+        }
         Next::Open(i) => open_argument(program, i),
     }
 }
 
 // Looks at the arguments and opens what the program is to read: the file that they name, or standard input where they
-// name none or `-`. Where help is asked for, `usage` is printed. `numbers`: the program has the option `--numbers`.
+// name none or `-`. Where help is asked for, `usage` is printed, and where the version is, that. `numbers`: the program has the option `--numbers`.
 pub fn look(program: &[u8], usage: &[u8], numbers: bool) -> Called {
     let seen = all_arguments(program, numbers);
     let input = input_for(program, usage, next_of(seen));
     Called {
         input,
         numbers: seen.numbers,
+        name: seen.name,
     }
 }

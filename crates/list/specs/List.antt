@@ -15,21 +15,21 @@ use Rattle.list.specs.declared.Place.{Place}
 
 -- Nothing more is read or listed.
 abbrev pub stoppedAt : Place → Place
-stoppedAt p = record { start = p .start; end = p .end; before = p .before; ended = p .ended; waiting = p .waiting; going = false }
+stoppedAt p = record { start = p .start; end = p .end; before = p .before; operations = p .operations; ended = p .ended; waiting = p .waiting; going = false }
 
 -- The same, and nothing of the output waits.
 abbrev pub emptiedAt : Place → Place
-emptiedAt p = record { start = p .start; end = p .end; before = p .before; ended = p .ended; waiting = 0; going = false }
+emptiedAt p = record { start = p .start; end = p .end; before = p .before; operations = p .operations; ended = p .ended; waiting = 0; going = false }
 
 -- After a read that brought so many bytes behind the `left` that are kept: the bytes before them are passed.
 abbrev pub refilledAt : Place → ℕ → ℕ → Bool → Place
 refilledAt p left came ended =
-    record { start = 0; end = min (left + came) 65536; before = (p .before + p .start) % 2 ^ 64; ended = ended; waiting = p .waiting; going = true }
+    record { start = 0; end = min (left + came) 65536; before = (p .before + p .start) % 2 ^ 64; operations = p .operations; ended = ended; waiting = p .waiting; going = true }
 
--- After an operation whose line is written at a place of the output's room.
+-- After an operation whose line is written at a place of the output's room; it is counted.
 abbrev pub listedAt : Place → ℕ → Bool → Numbers → ℕ → Place
 listedAt p at numbers x next =
-    record { start = next; end = p .end; before = p .before; ended = p .ended; waiting = at + length (lineOf numbers x); going = p .going }
+    record { start = next; end = p .end; before = p .before; operations = (p .operations + 1) % 2 ^ 64; ended = p .ended; waiting = at + length (lineOf numbers x); going = p .going }
 
 -- Where the next line goes: behind those that wait, or to the front where these leave no room for the longest line.
 abbrev pub lineStart : Place → ℕ

@@ -1,5 +1,5 @@
 // A recording, as one line an operation on standard output. What is read and written is the system's, and no contract can say
-// it: so `read_behind`, `refilled`, `say`, `list_all`, `finish` and `main` promise only what does not depend on it.
+// it: so `read_behind`, `refilled`, `report`, `list_all`, `finish` and `main` promise only what does not depend on it.
 ghost use mathlib.Core.Path.{_≡_};
 ghost use mathlib.Core.Bool.{Bool, true, false};
 ghost use Prim.Native.Nat.{_-_, _≤_, min};
@@ -16,10 +16,9 @@ use buffer::flush;
 use buffer::forward;
 use buffer::move_down;
 use buffer::within;
-use libc::STDERR_FILENO;
+use message::say_damage;
 use number::Found;
 use number::number_at;
-use operation::LAST_CODE;
 use readable::LONGEST_LINE;
 use readable::put_line;
 use recording::Numbers;
@@ -35,6 +34,8 @@ struct Place {
     start: usize,
     end: usize,
     before: u64,
+    // How many operations were listed.
+    operations: u64,
     // The input has no more.
     ended: bool,
     // How many bytes of the output are waiting.
@@ -76,6 +77,7 @@ fn after_read(p: Place, left: usize, came: usize, ended: bool) -> Place
         start: 0,
         end: forward(left, came),
         before: wrapping_add_u64(p.before, p.start as u64),
+        operations: p.operations,
         ended,
         waiting: p.waiting,
         going: true,
@@ -109,36 +111,20 @@ fn found_at(bytes: &[u8], end: usize, at: usize) -> Found
     number_at(&bytes[..n], at)
 }
 
-// What is wrong with the number that starts at this byte of the input: a number that can be read is an unknown code.
-fn say(byte: u64, found: Found) {
-    io::write_all(STDERR_FILENO, b"list: byte ");
-    io::print_decimal(STDERR_FILENO, byte);
-    io::write_all(STDERR_FILENO, b": ");
-    match found {
-        Found::Value(code, _) => {
-            io::write_all(STDERR_FILENO, b"a code is at most ");
-            io::print_decimal(STDERR_FILENO, LAST_CODE);
-            io::write_all(STDERR_FILENO, b", and ");
-            io::print_decimal(STDERR_FILENO, code);
-            io::write_all(STDERR_FILENO, b" stands here\n");
-        }
-        Found::Malformed => {
-            io::write_all(STDERR_FILENO, b"a malformed number\n");
-        }
-        Found::Ended => {
-            io::write_all(STDERR_FILENO, b"the input ends inside an operation\n");
-        }
-    }
-}
-
-// The lines before go out first, then the message.
-fn refused(bytes: &[u8; ROOM], out: &[u8; ROOM], p: Place, at: usize) -> Place
+// The lines before go out first, then the message. The input's name stands at place `name` of the arguments.
+fn refused(name: usize, bytes: &[u8; ROOM], out: &[u8; ROOM], p: Place, at: usize) -> Place
     ensures { λ r. ⌜ r ≡ emptiedAt p ⌝ }
 {
     flush(b"list", out, p.waiting);
-    let found = found_at(bytes, p.end, at);
-    say(wrapping_add_u64(p.before, at as u64), found);
+    report(name, wrapping_add_u64(p.before, at as u64), wrapping_add_u64(p.operations, 1), found_at(bytes, p.end, at));
     emptied(p)
+}
+
+// Where the recording is damaged, and how.
+fn report(place: usize, byte: u64, operation: u64, found: Found) {
+    let mut name = io::buffer();
+    let length = os::arg(place, &mut name);
+    say_damage(b"list", &name[..length], byte, operation, found);
 }
 
 // Writes an operation's line at a place where the longest line has room, and answers the place after the operation.
@@ -158,6 +144,7 @@ fn with_line(
         start: next,
         end: p.end,
         before: p.before,
+        operations: wrapping_add_u64(p.operations, 1),
         ended: p.ended,
         waiting: put_line(out, at, numbers, x),
         going: p.going,
@@ -179,12 +166,12 @@ fn listed(out: &mut [u8; ROOM], numbers: bool, p: Place, x: Numbers, next: usize
 }
 
 // Lists the operation that stands next.
-fn operation_listed(bytes: &[u8; ROOM], out: &mut [u8; ROOM], numbers: bool, p: Place) -> Place
+fn operation_listed(name: usize, bytes: &[u8; ROOM], out: &mut [u8; ROOM], numbers: bool, p: Place) -> Place
     ensures { λ r. ⌜ Turned (now (out .entry)) numbers p (operationAt (take (p .end) (now (bytes .entry))) (p .start)) r (now (out .exit)) ⌝ }
 {
     match reading_at(bytes, p.end, p.start) {
         Reading::Operation(x, next) => listed(out, numbers, p, x, next),
-        Reading::Refused(_, at) => refused(bytes, out, p, at),
+        Reading::Refused(_, at) => refused(name, bytes, out, p, at),
     }
 }
 
@@ -196,7 +183,7 @@ fn left_of(p: Place) -> usize
 }
 
 // Lists an operation, or reads once where too little is there to be sure of a whole one.
-fn turn(input: i32, numbers: bool, bytes: &mut [u8; ROOM], out: &mut [u8; ROOM], p: Place) -> Place
+fn turn(input: i32, name: usize, numbers: bool, bytes: &mut [u8; ROOM], out: &mut [u8; ROOM], p: Place) -> Place
     ensures { λ r. ⌜ (needsMore p ≡ false → TurnedAt (eqb (p .end - p .start) 0) (now (out .entry)) numbers p (operationAt (take (p .end) (now (bytes .entry))) (p .start)) r (now (out .exit))) ⌝ }
     ensures { λ _. ⌜ (needsMore p ≡ true → now (out .exit) ≡ now (out .entry)) ⌝ }
 {
@@ -207,25 +194,26 @@ fn turn(input: i32, numbers: bool, bytes: &mut [u8; ROOM], out: &mut [u8; ROOM],
     if left == 0 {
         return stopped(p);
     }
-    operation_listed(bytes, out, numbers, p)
+    operation_listed(name, bytes, out, numbers, p)
 }
 
 // A proved loop has to end, and nothing says that the input does. So the loop counts its turns down, from a number that
 // no run uses up.
-fn list_all(input: i32, numbers: bool) {
+fn list_all(input: i32, name: usize, numbers: bool) {
     let mut bytes = io::large_buffer();
     let mut out = io::large_buffer();
     let mut place = Place {
         start: 0,
         end: 0,
         before: 0,
+        operations: 0,
         ended: false,
         waiting: 0,
         going: true,
     };
     let mut turns = u64::MAX;
     while turns > 0 && place.going {
-        place = turn(input, numbers, &mut bytes, &mut out, place);
+        place = turn(input, name, numbers, &mut bytes, &mut out, place);
         turns -= 1;
     }
     finish(&out, place);
@@ -238,12 +226,12 @@ fn finish(out: &[u8; ROOM], p: Place) {
 
 fn main() {
     let usage =
-        b"usage: list [--numbers] [FILE]\n\nWrites one line for each operation of the recording FILE, or of standard input where FILE is - or missing.\n\n  --numbers   each operation as its own numbers in decimal, which pack reads back\n  --help      this text\n\nA recording that cannot be read on is said on standard error, with the byte where its bad number starts, after the\nlines of the operations before it.\n";
+        b"usage: list [--numbers] [FILE]\n\nWrites one line for each operation of the recording FILE, or of standard input where FILE is - or missing.\n\n  --numbers   each operation as its own numbers in decimal, which pack reads back\n  --help, -h  this text\n  --version   the version\n  --          what comes behind it is no option\n\nA recording that cannot be read on is said on standard error, with the byte where its bad number starts, counted\nfrom 0, after the lines of the operations before it.\n";
     let called = look(b"list", usage, true);
     let input = called.input;
     match input {
         Input::Opened(descriptor) => {
-            list_all(descriptor, called.numbers);
+            list_all(descriptor, called.name, called.numbers);
             libc::close(descriptor);
         }
         Input::Nothing => {}

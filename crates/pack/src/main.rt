@@ -1,6 +1,4 @@
 // Numbers as text, to a recording on standard output.
-mod messages;
-
 ghost use mathlib.Core.Path.{_≡_};
 ghost use Prim.Native.Nat.{_+_, _≤_};
 ghost use lib.ListN.{length};
@@ -17,9 +15,9 @@ use buffer::flush;
 use buffer::forward;
 use buffer::move_down;
 use buffer::within;
-use messages::Spot;
-use messages::has_lone_return;
-use messages::report;
+use complaint::Spot;
+use complaint::has_lone_return;
+use complaint::report;
 use notation::Begun;
 use notation::Problem;
 use notation::Step;
@@ -105,7 +103,7 @@ fn zeros_end(bytes: &[u8], at: usize) -> usize {
 
 // Whether the bytes start with 0x.
 fn is_hexadecimal(bytes: &[u8; ROOM]) -> bool {
-    (bytes[1] == b'X') | (bytes[1] == b'x')
+    (bytes[0] == b'0') & ((bytes[1] == b'X') | (bytes[1] == b'x'))
 }
 
 // A word that fills the buffer. Of many zeros in front three do as well. With few it is no number below 2^64, whatever
@@ -308,10 +306,10 @@ fn pack_all(input: i32, name: &[u8]) {
     finish(&out, work);
 }
 
-// The first argument is the input's name: the program has no option but --help.
-fn pack_named(input: i32) {
+// The input's name stands at this place of the arguments.
+fn pack_named(input: i32, place: usize) {
     let mut name = io::buffer();
-    let length = os::arg(1, &mut name);
+    let length = os::arg(place, &mut name);
     pack_all(input, &name[..length]);
 }
 
@@ -322,7 +320,7 @@ fn main() {
     let input = called.input;
     match input {
         Input::Opened(descriptor) => {
-            pack_named(descriptor);
+            pack_named(descriptor, called.name);
             libc::close(descriptor);
         }
         Input::Nothing => {}

@@ -1,5 +1,5 @@
 -- What was unread stands in front of what came behind it.
-use Prim.Native.Nat.{ℕ, _+_, _-_, _≤_, _<_}
+use Prim.Native.Nat.{ℕ, _+_, _-_, _^_, _%_, _≤_, _<_}
 use mathlib.Core.Path.{_≡_, refl, sym, ap, _∙_}
 use mathlib.Core.Bool.{Bool, true, false, cond, _&&_, _||_, not}
 use mathlib.Core.Logic.{_⊎_, inl, inr}
@@ -40,7 +40,7 @@ brought input p moved part kept came k fits is-moved is-kept room few =
 
 -- A replay that stops brings nothing.
 pub halted : (input : List ℕ) (p : Progress) (after : List ℕ) → Brings input p after (stopped p)
-halted input p after = record { state = refl; used = refl; piece = λ h. never (cc) }
+halted input p after = record { state = refl; used = refl; before = λ h. never (cc); piece = λ h. never (cc) }
 
 pub filled : (input : List ℕ) (p : Progress) (moved part : List ℕ) (kept came k : ℕ) → p .end ≤ length input
     → moved ≡ movedDown input (p .at) (p .end)
@@ -48,11 +48,12 @@ pub filled : (input : List ℕ) (p : Progress) (moved part : List ℕ) (kept cam
     → kept ≤ length moved
     → came ≤ length part
     → Brings input p (putMid kept k moved part)
-    (record { state = p .state; at = 0; end = kept + came; used = p .used; ended = eqb came 0; going = p .going })
+    (record { state = p .state; at = 0; end = kept + came; used = p .used; ended = eqb came 0; going = p .going; damaged = p .damaged; before = (p .before + p .at) % 2 ^ 64; operations = p .operations })
 filled input p moved part kept came k fits is-moved is-kept room few =
     record {
       state = refl;
       used = refl;
+      before = λ going. refl;
       piece = λ going. (
         take came part,
         brought input p moved part kept came k fits is-moved is-kept room few,

@@ -10,8 +10,12 @@ ghost use Rattle.replay.specs.Replay.{emptied, Brings, Turned};
 use arguments::Input;
 use arguments::look;
 use buffer::move_down;
+use buffer::within;
 use libc::STDOUT_FILENO;
 use line::LONGEST_LINE;
+use message::say_damage;
+use number::number_at;
+use std::num::wrapping_add_u64;
 use stream::LONGEST_OPERATION;
 use stream::Progress;
 use stream::replay_next;
@@ -25,11 +29,12 @@ fn refill(fd: i32, input: &mut [u8], p: Progress) -> Progress
     let kept = move_down(input, p.at, p.end);
     let got = libc::read(fd, &mut input[kept..]);
     if got < 0 {
-        os::fail(b"replay: reading");
+        os::fail(b"replay: the input cannot be read");
         return p.stopped();
     }
     let came = io::count(got, &input[kept..]);
     let mut next = p;
+    next.before = wrapping_add_u64(p.before, p.at as u64);
     next.at = 0;
     next.end = kept + came;
     next.ended = came == 0;
@@ -47,7 +52,7 @@ fn flush(output: &[u8], p: Progress) -> Progress
     if io::write_all(STDOUT_FILENO, &output[..used]) {
         return next;
     }
-    os::fail(b"replay: writing");
+    os::fail(b"replay: standard output");
     next.stopped()
 }
 
@@ -70,8 +75,15 @@ fn turn(fd: i32, room: &mut [u64], input: &mut [u8], output: &mut [u8], p: Progr
     replay_next(room, &input[..], output, p)
 }
 
+// Where the recording is damaged, and how.
+fn report(name: &[u8], input: &[u8], p: Progress) {
+    let end = within(p.end, input);
+    let found = number_at(&input[..end], p.at);
+    say_damage(b"replay", name, wrapping_add_u64(p.before, p.at as u64), p.operations, found);
+}
+
 // A proved loop has to end, and nothing says that a file does: the turns are counted down from a number that no run uses up.
-fn replay(fd: i32, room: &mut [u64], input: &mut [u8], output: &mut [u8])
+fn replay(fd: i32, room: &mut [u64], input: &mut [u8], output: &mut [u8]) -> Progress
     requires { ⌜ 32 ≤ length (now output) ⌝ }
 {
     let mut p = Progress::start();
@@ -81,20 +93,31 @@ fn replay(fd: i32, room: &mut [u64], input: &mut [u8], output: &mut [u8])
         turns -= 1;
     }
     flush(&output[..], p);
+    p
+}
+
+// Replays what is read, and says where it is damaged. The input's name stands at this place of the arguments.
+fn replay_named(fd: i32, place: usize) {
+    let mut room = [0u64; 192];
+    let mut bytes = io::large_buffer();
+    let mut lines = io::buffer();
+    let p = replay(fd, &mut room, &mut bytes, &mut lines);
+    if p.damaged {
+        let mut name = io::buffer();
+        let length = os::arg(place, &mut name);
+        report(&name[..length], &bytes, p);
+    }
 }
 
 fn main() {
     let called = look(
         b"replay",
-        b"usage: replay [FILE]\n\nReplays a recording from FILE, or from standard input where FILE is - or missing, from a fresh state with room\nfor 64 records. Prints a line for each read (16 hexadecimal digits), each access that was not performed\n(undefined, trap2, trap3) and each refusal (refused N), and nothing else. After refused 1 or refused 2 it stops.\n",
+        b"usage: replay [FILE]\n\nReplays a recording from FILE, or from standard input where FILE is - or missing, from a fresh state with room\nfor 64 records. Prints a line for each read (16 hexadecimal digits), each access that was not performed\n(undefined, trap2, trap3) and each refusal (refused N), and nothing else. After refused 1 or refused 2, where\nthe recording is damaged, it stops, and says on standard error where.\n",
         false,
     );
     let input = called.input;
     let Input::Opened(fd) = input else {
         return;
     };
-    let mut room = [0u64; 192];
-    let mut bytes = io::large_buffer();
-    let mut lines = io::buffer();
-    replay(fd, &mut room, &mut bytes, &mut lines);
+    replay_named(fd, called.name);
 }

@@ -1,5 +1,5 @@
 -- Where a replay stands whose input comes in pieces, and one operation of it. docs/MANUAL.md, "Programs".
-use Prim.Native.Nat.{ℕ}
+use Prim.Native.Nat.{ℕ, _+_, _^_, _%_}
 use mathlib.Core.Bool.{true, false, cond, _||_, not}
 use mathlib.Core.List.{List}
 use lib.Dec.{leb, ltb}
@@ -12,11 +12,13 @@ use Rattle.stream.specs.declared.Progress.{Progress}
 
 -- Before the first byte: a fresh state, nothing read and no line.
 abbrev pub start : Progress
-start = record { state = fresh; at = 0; end = 0; used = 0; ended = false; going = true }
+start =
+    record { state = fresh; at = 0; end = 0; used = 0; ended = false; going = true; damaged = false; before = 0; operations = 0 }
 
 -- With nothing left to do.
 abbrev pub stopped : Progress → Progress
-stopped p = record { state = p .state; at = p .at; end = p .end; used = p .used; ended = p .ended; going = false }
+stopped p =
+    record { state = p .state; at = p .at; end = p .end; used = p .used; ended = p .ended; going = false; damaged = p .damaged; before = p .before; operations = p .operations }
 
 -- Where the replay stands, with the records' room and the output's buffer as they are then.
 pub record Standing : Type 0 where
@@ -29,12 +31,12 @@ abbrev pub standing : Progress → List ℕ → List ℕ → Standing
 standing p room output = record { progress = p; room = room; output = output }
 
 -- After the operation at a place of the bytes that were read: the replay goes on behind it, with its line behind the others,
--- unless reading stops there.
+-- unless reading stops there, which damage to the recording does. The operation is counted.
 unfoldable pub operated : List ℕ → List ℕ → List ℕ → Progress → Standing
 operated room bytes output p =
     let t = turnOf (p .state) room bytes (p .at) output (p .used) in
     let step = recordedStep (p .state) room bytes (p .at) .result in
-    standing (record { state = t .state; at = t .next; end = p .end; used = t .used; ended = p .ended; going = not (t .stops) }) (step .room)
+    standing (record { state = t .state; at = t .next; end = p .end; used = t .used; ended = p .ended; going = not (t .stops); damaged = t .stops; before = p .before; operations = (p .operations + 1) % 2 ^ 64 }) (step .room)
     (lineWritten output (p .used) (step .answer))
 
 -- After the operation at the front of the unread bytes; where there are none, the replay stops.

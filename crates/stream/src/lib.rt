@@ -5,6 +5,7 @@ ghost use Prim.Native.Nat.{_-_};
 ghost use Rattle.stream.specs.Stream.{start, stopped, standing, operated, next};
 use line::replay_one;
 use state::State;
+use std::num::wrapping_add_u64;
 
 // An operation has at most so many bytes: six numbers of ten.
 pub const LONGEST_OPERATION: usize = 60;
@@ -20,6 +21,11 @@ pub struct Progress {
     pub ended: bool,
     // There is more to do.
     pub going: bool,
+    // Reading stopped at a number that is malformed or missing, or at an unknown code, which stands at `at`.
+    pub damaged: bool,
+    // How many bytes of the input went before those in its buffer, and how many operations were replayed.
+    pub before: u64,
+    pub operations: u64,
 }
 
 impl Progress {
@@ -34,6 +40,9 @@ impl Progress {
             used: 0,
             ended: false,
             going: true,
+            damaged: false,
+            before: 0,
+            operations: 0,
         }
     }
 
@@ -70,6 +79,9 @@ fn operate(room: &mut [u64], bytes: &[u8], output: &mut [u8], p: Progress) -> Pr
         used: t.used,
         ended: p.ended,
         going: !t.stops,
+        damaged: t.stops,
+        before: p.before,
+        operations: wrapping_add_u64(p.operations, 1),
     }
 }
 

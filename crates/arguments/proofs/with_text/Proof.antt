@@ -1,5 +1,7 @@
--- What the arguments say with one more: each arm knows the word.
-use borrow.Author.Needs.{needs}
+-- What the arguments say with one more, anywhere.
+use mathlib.Core.Path.{_∙_}
+use denote.Ref.{now}
+use Rattle.arguments.proofs.Laws.{a-name, a-word}
 use Rattle.arguments.proofs.with_text.Statement.{statement}
 use Rattle.arguments.proofs.with_text.Tie as tie
 
@@ -8,22 +10,6 @@ with-text-spec =
     tie.close
     (tie.spec
     (λ _ _. tt)
-    (λ c. search needs)
+    (λ c. let a = c .before .before .before .before .args in c .named .ensures ∙ a-name (a .numbers) (a .i) (now (a .text)) (a .seen) (c .before .if1 .taken))
     (λ _ _. tt)
-    (λ c. search needs)
-    (λ _ _. tt)
-    (λ c. search needs)
-    (λ _ _. tt)
-    (λ c. search needs)
-    (λ _ _. tt)
-    (λ c. search needs)
-    (λ c. search needs)
-    (λ _ _. tt)
-    (λ c. search needs)
-    (λ _ _. tt)
-    (λ c. rw (← c .before .before .before .word-of .ensures, c .before .enum-told .given .1) (c .helped .ensures))
-    (λ c. rw (← c .before .before .before .before .word-of .ensures, c .before .before .enum-told2 .given .1, c .before .if1 .taken) (c .numbered .ensures))
-    (λ c. rw (← c .before .before .before .before .before .word-of .ensures, c .before .before .before .enum-told2 .given .1, c .before .before .if1 .left) (c .refuse .ensures))
-    (λ c. rw (← c .before .before .before .word-of .ensures, c .before .enum-told3 .given .1) (c .named .ensures))
-    (λ c. rw (← c .before .before .before .before .word-of .ensures, c .before .before .enum-told4 .given .1) (c .refuse2 .ensures))
-    (λ c. rw (← c .before .before .before .word-of .ensures, c .before .enum-told5 .given .1) (c .named2 .ensures)))
+    (λ c. let a = c .before .before .before .before .args in c .with-word .ensures ∙ a-word (a .numbers) (a .i) (now (a .text)) (a .seen) (c .before .if1 .left)))

@@ -4,10 +4,10 @@ use Rattle.list.proofs.list_all.Statement.{statement}
 use Rattle.list.proofs.list_all.Tie as tie
 
 abbrev Inv-loop : tie.InvT-loop
-Inv-loop input numbers bytes₀ out₀ place₀ turns₀ bytes out place turns = Unit {0}
+Inv-loop input name numbers bytes₀ out₀ place₀ turns₀ bytes out place turns = Unit {0}
 
 abbrev μ-loop : tie.MeasureT-loop
-μ-loop input numbers bytes₀ out₀ place₀ turns₀ bytes out place turns = turns
+μ-loop input name numbers bytes₀ out₀ place₀ turns₀ bytes out place turns = turns
 
 pub list-all-spec : {M : Type 1} → statement M
 list-all-spec =

@@ -10,7 +10,9 @@ with-line-spec =
     tie.close
     (tie.spec
     (λ _ _. tt)
+    (λ _ _. tt)
     (λ c.
-    let a = c .before .before .args in
-    let (place, content) = has-line (now (a .out)) (a .at) (a .numbers) (a .x) (c .before .before .pre) in
-    (rw (c .put-line .ensures .0, place), c .put-line .ensures .1 ∙ content)))
+    let start = c .before .before .before in
+    let a = start .args in
+    let (place, content) = has-line (now (a .out)) (a .at) (a .numbers) (a .x) (start .pre) in
+    (rw (c .put-line .ensures .0, place, c .before .before .wrapping-add-u64 .ensures), c .put-line .ensures .1 ∙ content)))

@@ -24,7 +24,8 @@ returns c =
 
 returns-2 : tie.Need-returns-2
 returns-2 c =
-    let r = c .before .before .before .before .before .before in
+    let d = c .before in
+    let r = d .before .before .before .before .before .before in
     let m = r .before .before .before .before in
     let a = m .before .before .before .args in
     let moved = m .move-down .ensures in
@@ -33,10 +34,10 @@ returns-2 c =
     let after = putMid kept (length before - kept) before (r .read .last .1 .0) in
     let came = mid-len kept (length after) after (omega arith) in
     let lent = mid-len kept (length before) before (omega arith) in
-    let few : c .count .result ≤ length (r .read .last .1 .0) =
-    omega (arith, c .count .ensures .0 .0, came, lent, long r, m .move-down .kept .0, r .read .kept .1 .0)
+    let few : d .count .result ≤ length (r .read .last .1 .0) =
+    omega (arith, d .count .ensures .0 .0, came, lent, long r, m .move-down .kept .0, r .read .kept .1 .0)
     in
-    (filled (a .input .now) (a .p) (m .move-down .last .0) (r .read .last .1 .0) (m .move-down .result) (c .count .result) (length before - kept) (omega arith) (moved .1) (moved .0 .0) (moved .0 .1) few, omega (arith, few, lent, long r, m .move-down .kept .0, r .read .kept .1 .0, moved .0 .1))
+    (rw (c .wrapping-add-u64 .ensures) (filled (a .input .now) (a .p) (m .move-down .last .0) (r .read .last .1 .0) (m .move-down .result) (d .count .result) (length before - kept) (omega arith) (moved .1) (moved .0 .0) (moved .0 .1) few), omega (arith, few, lent, long r, m .move-down .kept .0, r .read .kept .1 .0, moved .0 .1))
 
 pub refill-spec : {M : Type 1} → statement M
 refill-spec =
@@ -55,6 +56,7 @@ refill-spec =
     (λ c. search needs)
     (λ c. search needs)
     (λ c. search needs)
+    (λ _ _. tt)
     (λ _ _. tt)
     (λ c. search needs)
     (λ c. search needs)

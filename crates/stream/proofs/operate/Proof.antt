@@ -10,8 +10,9 @@ operate-spec =
     tie.close
     (tie.spec
     (λ _ _. tt)
+    (λ _ _. tt)
     (λ c. search needs)
     (λ c. search needs)
     (λ c.
-    let one = c .before .before .before .before .before .before .replay-one .ensures in
-    rw (← one .0, ← one .1 .0, ← one .1 .1)))
+    let one = c .before .before .before .before .before .before .before .replay-one .ensures in
+    rw (← one .0, ← one .1 .0, ← one .1 .1, c .wrapping-add-u64 .ensures)))

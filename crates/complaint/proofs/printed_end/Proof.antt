@@ -2,8 +2,8 @@
 use Prim.Native.Nat.{_-_, _≤_}
 use native.Mathlib.Omega.{arith}
 use lib.ListN.{length}
-use Rattle.pack.proofs.messages.printed_end.Statement.{statement}
-use Rattle.pack.proofs.messages.printed_end.Tie as tie
+use Rattle.complaint.proofs.printed_end.Statement.{statement}
+use Rattle.complaint.proofs.printed_end.Tie as tie
 
 abbrev Inv-loop : tie.InvT-loop
 Inv-loop bytes at most stop i₀ i = (at ≤ i) × (i ≤ length bytes)

@@ -1,8 +1,12 @@
 // What `pack` says on standard error of a text that it cannot read.
 ghost use Prim.Native.Nat.{_≤_};
-ghost use lib.ListN.{length};
+ghost use mathlib.Core.Path.{_≡_};
+ghost use mathlib.Core.Bool.{false};
+ghost use lib.ListN.{length, take, drop};
+ghost use Rattle.complaint.specs.Returns.{loneReturn};
 use buffer::within;
 use libc::STDERR_FILENO;
+use message::say_input;
 use notation::Problem;
 use notation::separates;
 use operation::LAST_CODE;
@@ -147,7 +151,9 @@ fn say_count(code: u64, count: u64) {
 }
 
 // Whether a carriage return that another byte than a line's end follows stands before a place, from another place on.
-pub fn has_lone_return(bytes: &[u8], from: usize, to: usize) -> bool {
+pub fn has_lone_return(bytes: &[u8], from: usize, to: usize) -> bool
+    ensures { λ r. ⌜ r ≡ loneReturn false (drop from (take to (now (bytes .entry)))) ⌝ }
+{
     let stop = within(to, bytes);
     let mut after = false;
     let mut i = from;
@@ -198,23 +204,9 @@ fn say_problem(bytes: &[u8], returned: bool, at: usize, problem: Problem)
     }
 }
 
-// The input's name, as the arguments have it.
-fn say_name(name: &[u8]) {
-    if name.len() == 0 {
-        say(b"standard input");
-        return;
-    }
-    if (name.len() == 1) & (name[0] == b'-') {
-        say(b"standard input");
-        return;
-    }
-    say(name);
-}
-
 // `pack: FILE: line 3, column 7, operation 12: "4x" is no number in decimal or 0x hexadecimal`.
 pub fn report(name: &[u8], spot: Spot, bytes: &[u8], returned: bool, at: usize, problem: Problem) {
-    say(b"pack: ");
-    say_name(name);
+    say_input(b"pack", name);
     say(b": line ");
     say_number(spot.line);
     say(b", column ");
