@@ -21,7 +21,7 @@ pub struct Called {
     pub input: Input,
     // `--numbers` was given.
     pub numbers: bool,
-    // The place of the input's name among the arguments; 0, the program's own, where none was given.
+    // The place of the input's name among the arguments, past them all where none was given.
     pub name: usize,
 }
 
@@ -335,6 +335,10 @@ pub fn look(program: &[u8], usage: &[u8], numbers: bool) -> Called {
     Called {
         input,
         numbers: seen.numbers,
-        name: seen.name,
+        name: if seen.name == 0 {
+            usize::MAX
+        } else {
+            seen.name
+        },
     }
 }

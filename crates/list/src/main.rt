@@ -116,7 +116,12 @@ fn refused(name: usize, bytes: &[u8; ROOM], out: &[u8; ROOM], p: Place, at: usiz
     ensures { λ r. ⌜ r ≡ emptiedAt p ⌝ }
 {
     flush(b"list", out, p.waiting);
-    report(name, wrapping_add_u64(p.before, at as u64), wrapping_add_u64(p.operations, 1), found_at(bytes, p.end, at));
+    report(
+        name,
+        wrapping_add_u64(p.before, at as u64),
+        wrapping_add_u64(p.operations, 1),
+        found_at(bytes, p.end, at),
+    );
     emptied(p)
 }
 
@@ -166,7 +171,13 @@ fn listed(out: &mut [u8; ROOM], numbers: bool, p: Place, x: Numbers, next: usize
 }
 
 // Lists the operation that stands next.
-fn operation_listed(name: usize, bytes: &[u8; ROOM], out: &mut [u8; ROOM], numbers: bool, p: Place) -> Place
+fn operation_listed(
+    name: usize,
+    bytes: &[u8; ROOM],
+    out: &mut [u8; ROOM],
+    numbers: bool,
+    p: Place,
+) -> Place
     ensures { λ r. ⌜ Turned (now (out .entry)) numbers p (operationAt (take (p .end) (now (bytes .entry))) (p .start)) r (now (out .exit)) ⌝ }
 {
     match reading_at(bytes, p.end, p.start) {
@@ -183,7 +194,14 @@ fn left_of(p: Place) -> usize
 }
 
 // Lists an operation, or reads once where too little is there to be sure of a whole one.
-fn turn(input: i32, name: usize, numbers: bool, bytes: &mut [u8; ROOM], out: &mut [u8; ROOM], p: Place) -> Place
+fn turn(
+    input: i32,
+    name: usize,
+    numbers: bool,
+    bytes: &mut [u8; ROOM],
+    out: &mut [u8; ROOM],
+    p: Place,
+) -> Place
     ensures { λ r. ⌜ (needsMore p ≡ false → TurnedAt (eqb (p .end - p .start) 0) (now (out .entry)) numbers p (operationAt (take (p .end) (now (bytes .entry))) (p .start)) r (now (out .exit))) ⌝ }
     ensures { λ _. ⌜ (needsMore p ≡ true → now (out .exit) ≡ now (out .entry)) ⌝ }
 {

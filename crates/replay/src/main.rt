@@ -79,7 +79,13 @@ fn turn(fd: i32, room: &mut [u64], input: &mut [u8], output: &mut [u8], p: Progr
 fn report(name: &[u8], input: &[u8], p: Progress) {
     let end = within(p.end, input);
     let found = number_at(&input[..end], p.at);
-    say_damage(b"replay", name, wrapping_add_u64(p.before, p.at as u64), p.operations, found);
+    say_damage(
+        b"replay",
+        name,
+        wrapping_add_u64(p.before, p.at as u64),
+        p.operations,
+        found,
+    );
 }
 
 // A proved loop has to end, and nothing says that a file does: the turns are counted down from a number that no run uses up.
