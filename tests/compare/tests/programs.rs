@@ -1,12 +1,14 @@
-//! The replay program beside the model: what it prints, byte for byte, for a file and for standard input. It is built with
+//! The replay program beside the model: what it prints, byte for byte, for a file and for standard input,
+//! and the byte that it names where a recording is damaged. It is built with
 //! the proofs; where it is not there, the tests say so and pass. `BRB_SEED` repeats a run.
 
 use compare::generate;
-use compare::programs::{first_difference, pieces, Program, Way, PIECE};
+use compare::programs::{first_difference, message, pieces, Program, Way, PIECE};
 use compare::recording::{damage, hex, Recording};
 use compare::seed::{self, say};
 use compare::{Call, Random};
-use model::replay;
+use model::lines::Form;
+use model::{replay, Document01, Lines};
 
 const SMALL_RECORDINGS: usize = 60;
 const LARGE_RECORDINGS: usize = 4;
@@ -25,12 +27,14 @@ impl Replay {
         Program::of_test("replay", test, env!("CARGO_TARGET_TMPDIR")).map(Replay)
     }
 
-    /// As a file and in pieces, it must print what the model prints.
+    /// As a file and in pieces, it must print what the model prints, and name the byte where the recording is damaged.
     fn check(&self, bytes: &[u8], pieces: Way) {
         let expected = replay::text(bytes);
+        let bad = Document01.list(bytes, Form::Numbers).bad;
         for way in [Way::File, pieces] {
             let output = self.0.run(&[], bytes, &way);
-            if let Some(difference) = first_difference(&output.stdout, expected.as_bytes()) {
+            let lines = first_difference(&output.stdout, expected.as_bytes());
+            if let Some(difference) = lines.or_else(|| message::difference(&output.stderr, "byte", bad)) {
                 let (start, kept) = (hex(&bytes[..bytes.len().min(80)]), self.0.file().display());
                 let errors = String::from_utf8_lossy(&output.stderr);
                 panic!("{way:?}, {} bytes ({start} ...), kept in {kept}: {difference}\n{errors}", bytes.len());
