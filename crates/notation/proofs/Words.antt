@@ -20,7 +20,7 @@ use Rattle.notation.specs.declared.Problem.the-variants.{NoNumber, TooLa
 use Rattle.notation.specs.declared.Word.{Word}
 use Rattle.notation.specs.declared.Word.the-variants as Word
 use Rattle.notation.specs.Text.{digitValue, appended}
-use Rattle.notation.specs.Words.{separating, wordIn, isPrefixed, Meaning, number, wrong, onward, digitsOf}
+use Rattle.notation.specs.Words.{separating, wordIn, isPrefixed, Meaning, number, wrong, onward, baseOf, digitsOf}
 use Rattle.notation.specs.Places.{located}
 
 pub from-byte : (s : List ℕ) (i : ℕ) → i < length s → drop i s ≡ getD s i 0 ∷ drop (i + 1) s
@@ -116,6 +116,10 @@ prefix-split s i e =
     let two : i + 1 + 1 ≡ i + 2 = omega arith in
     let tail = rw two at (second .1) in
     record { within = second .0; rest = rw (first .1, tail); size = rw (first .1, tail) (omega arith) }
+
+pub base-small : (hexadecimal : Bool) → baseOf hexadecimal ≤ 16
+base-small true = omega arith
+base-small false = omega arith
 
 -- What the rest of a word from a place on is, behind a value.
 abbrev pub numberFrom : ℕ → List ℕ → ℕ → ℕ → Word

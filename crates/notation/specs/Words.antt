@@ -1,6 +1,6 @@
 -- Words of a text: what cuts them, and which number a word is. docs/MANUAL.md, "Programs".
 use Prim.Native.Nat.{ℕ, zero, suc}
-use mathlib.Core.Bool.{Bool, cond, _||_, _&&_}
+use mathlib.Core.Bool.{Bool, true, false, cond, _||_, _&&_}
 use mathlib.Core.List.{List, [], _∷_}
 use lib.Dec.{ltb, eqb}
 use lib.ListN.{getD, drop}
@@ -44,6 +44,11 @@ unfoldable pub digitsOf : ℕ → ℕ → List ℕ → Meaning
 digitsOf base value [] = number value
 digitsOf base value (b ∷ word) =
     cond (ltb (digitValue b) base) (onward (λ more. digitsOf base more word) (appended base value (digitValue b))) (wrong NoNumber)
+
+-- The base of a word's digits, which is 16 behind 0x.
+abbrev pub baseOf : Bool → ℕ
+baseOf true = 16
+baseOf false = 10
 
 -- What follows 0x: at least a digit.
 abbrev pub prefixed : List ℕ → Meaning

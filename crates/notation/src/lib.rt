@@ -5,7 +5,7 @@ ghost use mathlib.Core.List.{[]};
 ghost use Prim.Native.Nat.{_+_, _-_, _<_, _^_, min};
 ghost use lib.ListN.{length, drop, getD, set};
 ghost use Rattle.notation.specs.Text.{digitValue, appended};
-ghost use Rattle.notation.specs.Words.{isBlank, endsOperation, separating, wordIn, digitsOf, prefixed, isPrefixed, meaningOf, wholeWords};
+ghost use Rattle.notation.specs.Words.{isBlank, endsOperation, separating, wordIn, baseOf, digitsOf, prefixed, isPrefixed, meaningOf, wholeWords};
 ghost use Rattle.notation.specs.Reading.{noneBegun, sixOf, ofSix, added, endedAt, readFrom};
 ghost use Rattle.notation.specs.Places.{located, lineLength, Follows};
 use operation::LAST_CODE;
@@ -139,36 +139,34 @@ fn number_before(byte: u8, value: u64, at: usize) -> Word
     Word::Wrong(Problem::NoNumber)
 }
 
-fn decimal_at(bytes: &[u8], at: usize) -> Word
-    ensures { λ r. ⌜ r ≡ located (drop at (now (bytes .entry))) at (digitsOf 10 0 (wordIn (drop at (now (bytes .entry))))) ⌝ }
+fn base_of(hexadecimal: bool) -> u64
+    ensures { λ r. ⌜ r ≡ baseOf hexadecimal ⌝ }
 {
-    let mut value = 0;
-    let mut i = at;
-    while i < bytes.len() {
-        let digit = digit_value(bytes[i]);
-        if 9 < digit {
-            return number_before(bytes[i], value, i);
-        }
-        let Appended::Value(more) = decimal_appended(value, digit) else {
-            return Word::Wrong(Problem::TooLarge);
-        };
-        value = more;
-        i += 1;
-    }
-    Word::Number(value, i)
+    if hexadecimal { 16 } else { 10 }
 }
 
-fn hexadecimal_at(bytes: &[u8], at: usize) -> Word
-    ensures { λ r. ⌜ r ≡ located (drop at (now (bytes .entry))) at (digitsOf 16 0 (wordIn (drop at (now (bytes .entry))))) ⌝ }
+// The two bases are told apart here, so that each divides by a constant.
+fn appended_in(hexadecimal: bool, value: u64, digit: u64) -> Appended
+    ensures { λ r. ⌜ r ≡ appended (baseOf hexadecimal) value digit ⌝ }
 {
+    if hexadecimal {
+        return hexadecimal_appended(value, digit);
+    }
+    decimal_appended(value, digit)
+}
+
+fn digits_at(bytes: &[u8], at: usize, hexadecimal: bool) -> Word
+    ensures { λ r. ⌜ r ≡ located (drop at (now (bytes .entry))) at (digitsOf (baseOf hexadecimal) 0 (wordIn (drop at (now (bytes .entry))))) ⌝ }
+{
+    let base = base_of(hexadecimal);
     let mut value = 0;
     let mut i = at;
     while i < bytes.len() {
         let digit = digit_value(bytes[i]);
-        if 15 < digit {
+        if base <= digit {
             return number_before(bytes[i], value, i);
         }
-        let Appended::Value(more) = hexadecimal_appended(value, digit) else {
+        let Appended::Value(more) = appended_in(hexadecimal, value, digit) else {
             return Word::Wrong(Problem::TooLarge);
         };
         value = more;
@@ -187,7 +185,7 @@ fn prefixed_at(bytes: &[u8], at: usize) -> Word
     if separates(bytes[at]) {
         return Word::Wrong(Problem::NoNumber);
     }
-    hexadecimal_at(bytes, at)
+    digits_at(bytes, at, true)
 }
 
 // Whether 0x or 0X stands at a place.
@@ -210,7 +208,7 @@ fn word_at(bytes: &[u8], at: usize) -> Word
     if is_prefix(bytes, at) {
         return prefixed_at(bytes, at + 2);
     }
-    decimal_at(bytes, at)
+    digits_at(bytes, at, false)
 }
 
 // One more, and no wrap: no text is so long that this stands still.

@@ -30,5 +30,5 @@ prefixed-at-spec =
     (λ c.
     let a = c .before .before .before .before .before .before .args in
     let s = now (a .bytes) in
-    c .hexadecimal-at .ensures
+    c .digits-at .ensures
     ∙ ap (located (drop (a .at) s) (a .at)) (same s (a .at) (omega arith) (sym (c .before .before .separates .ensures) ∙ c .before .if2 .left))))

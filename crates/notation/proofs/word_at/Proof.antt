@@ -44,4 +44,4 @@ word-at-spec =
     (λ _ _. tt)
     (λ c.
     let a = c .before .before .before .before .args in
-    c .decimal-at .ensures ∙ decimal (now (a .bytes)) (a .at) (sym (c .before .before .is-prefix .ensures) ∙ c .before .if1 .left)))
+    c .digits-at .ensures ∙ decimal (now (a .bytes)) (a .at) (sym (c .before .before .is-prefix .ensures) ∙ c .before .if1 .left)))
