@@ -25,7 +25,7 @@ returns c =
     let a = l .before .before .before .args in
     let base = l .before .base-of .ensures in
     c .number-before .ensures
-    ∙ sym (l .loop .inv ∙ number-ends (baseOf (a .hexadecimal)) (now (a .bytes)) (l .loop .i) (l .loop .value) (omega arith) (omega (arith, base)))
+    ∙ sym (l .loop .inv ∙ number-ends (baseOf (a .hexadecimal)) (now (a .bytes)) (l .loop .i) (l .loop .value) (omega arith) (omega (arith, base, base-small (a .hexadecimal))))
 
 returns-2 : tie.Need-returns-2 Inv-loop μ-loop
 returns-2 c =
