@@ -7,16 +7,8 @@
 #include <stdio.h>
 #include <string.h>
 
-static unsigned passed, failed;
-
-static void check(int holds, const char *what) {
-    if (holds) {
-        passed++;
-    } else {
-        failed++;
-        fprintf(stderr, "header: failed: %s\n", what);
-    }
-}
+#define TEST "header"
+#include "check.h"
 
 /* Constants that fit an int can be asked by the preprocessor. */
 #if BRB_VERSION_MAJOR != 0 || BRB_STATE_NUMBERS != BRB_STATE_UNKNOWN + 1 || BRB_LARGEST_ROOM != 192

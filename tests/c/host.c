@@ -7,16 +7,8 @@
 #include <stdlib.h>
 #include <string.h>
 
-static unsigned passed, failed;
-
-static void check(int holds, const char *what) {
-    if (holds) {
-        passed++;
-    } else {
-        failed++;
-        fprintf(stderr, "c host: failed: %s\n", what);
-    }
-}
+#define TEST "c host"
+#include "check.h"
 
 /* A state and a room, lent with their lengths. */
 struct lent {

@@ -2,16 +2,8 @@
 #include "brb.h"
 #include <stdio.h>
 
-static unsigned passed, failed;
-
-static void check(int holds, const char *what) {
-    if (holds) {
-        passed++;
-    } else {
-        failed++;
-        fprintf(stderr, "nothing: failed: %s\n", what);
-    }
-}
+#define TEST "nothing"
+#include "check.h"
 
 static int is(struct brb_answer answer, uint64_t number) { return answer.number == number && answer.value == 0; }
 
