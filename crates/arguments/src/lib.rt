@@ -6,8 +6,8 @@ ghost use Rattle.arguments.specs.Arguments.{sameText, optionOf, wordOf, 
 use libc::STDERR_FILENO;
 use libc::STDIN_FILENO;
 use libc::STDOUT_FILENO;
-use message::say_input;
 use message::say_shown;
+use message::say_unread;
 
 // What a program is to read.
 pub enum Input {
@@ -262,8 +262,7 @@ fn source_of(i: usize, name: &[u8]) -> Source
 
 // Says what the system has against a file.
 fn unread(program: &[u8], name: &[u8]) -> Input {
-    say_input(program, name);
-    os::fail(b"");
+    say_unread(program, name);
     Input::Nothing
 }
 

@@ -1,5 +1,5 @@
 // A recording, as one line an operation on standard output. What is read and written is the system's, and no contract can say
-// it: so `read_behind`, `refilled`, `report`, `list_all`, `finish` and `main` promise only what does not depend on it.
+// it: so `read_behind`, `refilled`, `list_all`, `list_named`, `finish` and `main` promise only what does not depend on it.
 ghost use mathlib.Core.Path.{_≡_};
 ghost use mathlib.Core.Bool.{Bool, true, false};
 ghost use Prim.Native.Nat.{_-_, _≤_, min};
@@ -17,6 +17,7 @@ use buffer::forward;
 use buffer::move_down;
 use buffer::within;
 use message::say_damage;
+use message::say_unread;
 use number::Found;
 use number::number_at;
 use readable::LONGEST_LINE;
@@ -85,11 +86,11 @@ fn after_read(p: Place, left: usize, came: usize, ended: bool) -> Place
 }
 
 // Makes room at the front and reads once.
-fn refilled(input: i32, bytes: &mut [u8; ROOM], p: Place) -> Place {
+fn refilled(input: i32, name: &[u8], bytes: &mut [u8; ROOM], p: Place) -> Place {
     let left = move_down(bytes, p.start, p.end);
     let got = read_behind(input, bytes, left);
     if got < 0 {
-        os::fail(b"list: the input cannot be read");
+        say_unread(b"list", name);
         return stopped(p);
     }
     after_read(p, left, io::count(got, bytes), got == 0)
@@ -111,25 +112,19 @@ fn found_at(bytes: &[u8], end: usize, at: usize) -> Found
     number_at(&bytes[..n], at)
 }
 
-// The lines before go out first, then the message. The input's name stands at place `name` of the arguments.
-fn refused(name: usize, bytes: &[u8; ROOM], out: &[u8; ROOM], p: Place, at: usize) -> Place
+// The lines before go out first, then the message.
+fn refused(name: &[u8], bytes: &[u8; ROOM], out: &[u8; ROOM], p: Place, at: usize) -> Place
     ensures { λ r. ⌜ r ≡ emptiedAt p ⌝ }
 {
     flush(b"list", out, p.waiting);
-    report(
+    say_damage(
+        b"list",
         name,
         wrapping_add_u64(p.before, at as u64),
         wrapping_add_u64(p.operations, 1),
         found_at(bytes, p.end, at),
     );
     emptied(p)
-}
-
-// Where the recording is damaged, and how.
-fn report(place: usize, byte: u64, operation: u64, found: Found) {
-    let mut name = io::buffer();
-    let length = os::arg(place, &mut name);
-    say_damage(b"list", &name[..length], byte, operation, found);
 }
 
 // Writes an operation's line at a place where the longest line has room, and answers the place after the operation.
@@ -172,7 +167,7 @@ fn listed(out: &mut [u8; ROOM], numbers: bool, p: Place, x: Numbers, next: usize
 
 // Lists the operation that stands next.
 fn operation_listed(
-    name: usize,
+    name: &[u8],
     bytes: &[u8; ROOM],
     out: &mut [u8; ROOM],
     numbers: bool,
@@ -196,7 +191,7 @@ fn left_of(p: Place) -> usize
 // Lists an operation, or reads once where too little is there to be sure of a whole one.
 fn turn(
     input: i32,
-    name: usize,
+    name: &[u8],
     numbers: bool,
     bytes: &mut [u8; ROOM],
     out: &mut [u8; ROOM],
@@ -207,7 +202,7 @@ fn turn(
 {
     let left = left_of(p);
     if (left < LONGEST) & !p.ended {
-        return refilled(input, bytes, p);
+        return refilled(input, name, bytes, p);
     }
     if left == 0 {
         return stopped(p);
@@ -217,7 +212,7 @@ fn turn(
 
 // A proved loop has to end, and nothing says that the input does. So the loop counts its turns down, from a number that
 // no run uses up.
-fn list_all(input: i32, name: usize, numbers: bool) {
+fn list_all(input: i32, name: &[u8], numbers: bool) {
     let mut bytes = io::large_buffer();
     let mut out = io::large_buffer();
     let mut place = Place {
@@ -242,6 +237,13 @@ fn finish(out: &[u8; ROOM], p: Place) {
     flush(b"list", out, p.waiting);
 }
 
+// The input's name stands at this place of the arguments.
+fn list_named(input: i32, place: usize, numbers: bool) {
+    let mut name = io::buffer();
+    let length = os::arg(place, &mut name);
+    list_all(input, &name[..length], numbers);
+}
+
 fn main() {
     let usage =
         b"usage: list [--numbers] [FILE]\n\nWrites one line for each operation of the recording FILE, or of standard input where FILE is - or missing.\n\n  --numbers   each operation as its own numbers in decimal, which pack reads back\n  --help, -h  this text\n  --version   the version\n  --          what comes behind it is no option\n\nA recording that cannot be read on is said on standard error, with the byte where its bad number starts, counted\nfrom 0, after the lines of the operations before it.\n";
@@ -249,7 +251,7 @@ fn main() {
     let input = called.input;
     match input {
         Input::Opened(descriptor) => {
-            list_all(descriptor, called.name, called.numbers);
+            list_named(descriptor, called.name, called.numbers);
             libc::close(descriptor);
         }
         Input::Nothing => {}

@@ -45,6 +45,12 @@ pub fn say_input(program: &[u8], name: &[u8]) {
     }
 }
 
+// What the system has against an input, said first thing after it refused: `replay: FILE: Input/output error`.
+pub fn say_unread(program: &[u8], name: &[u8]) {
+    say_input(program, name);
+    os::fail(b"");
+}
+
 // A byte that a text can begin with: a printed character, a tab or a line's end.
 fn is_text(byte: u64) -> bool {
     (byte == 9) | (byte == 10) | (byte == 13) | (32 <= byte) & (byte <= 126)

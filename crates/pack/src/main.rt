@@ -18,6 +18,7 @@ use buffer::within;
 use complaint::Spot;
 use complaint::has_lone_return;
 use complaint::report;
+use message::say_unread;
 use notation::Begun;
 use notation::Problem;
 use notation::Step;
@@ -126,7 +127,7 @@ fn shortened(bytes: &mut [u8; ROOM], mut w: Work) -> Work {
 }
 
 // The rest of the buffer at its front, and behind it what is read at once.
-fn refilled(input: i32, bytes: &mut [u8; ROOM], mut w: Work) -> Work {
+fn refilled(input: i32, name: &[u8], bytes: &mut [u8; ROOM], mut w: Work) -> Work {
     w.before = wrapping_add_u64(w.before, w.start as u64);
     let left = move_down(bytes, w.start, w.end);
     w.start = 0;
@@ -135,7 +136,7 @@ fn refilled(input: i32, bytes: &mut [u8; ROOM], mut w: Work) -> Work {
     }
     let got = read_behind(input, bytes, left);
     if got < 0 {
-        os::fail(b"pack: the input cannot be read");
+        say_unread(b"pack", name);
         return stopped(w);
     }
     let came = io::count(got, bytes);
@@ -259,7 +260,7 @@ fn turn(input: i32, name: &[u8], bytes: &mut [u8; ROOM], out: &mut [u8; ROOM], w
         if w.over {
             return finished(name, bytes, out, w);
         }
-        return refilled(input, bytes, w);
+        return refilled(input, name, bytes, w);
     }
     if w.comment {
         return commented(bytes, w);

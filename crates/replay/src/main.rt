@@ -14,6 +14,7 @@ use buffer::within;
 use libc::STDOUT_FILENO;
 use line::LONGEST_LINE;
 use message::say_damage;
+use message::say_unread;
 use number::number_at;
 use std::num::wrapping_add_u64;
 use stream::LONGEST_OPERATION;
@@ -21,7 +22,7 @@ use stream::Progress;
 use stream::replay_next;
 
 // Brings more of the file behind the bytes that are left. What keeps it from being read is said.
-fn refill(fd: i32, input: &mut [u8], p: Progress) -> Progress
+fn refill(fd: i32, name: &[u8], input: &mut [u8], p: Progress) -> Progress
     requires { ⌜ p .end ≤ length (now input) ⌝ }
     ensures { λ r. ⌜ Brings (now (input .entry)) p (now (input .exit)) r ⌝ }
     ensures { λ r. ⌜ r .end ≤ length (now (input .exit)) ⌝ }
@@ -29,7 +30,7 @@ fn refill(fd: i32, input: &mut [u8], p: Progress) -> Progress
     let kept = move_down(input, p.at, p.end);
     let got = libc::read(fd, &mut input[kept..]);
     if got < 0 {
-        os::fail(b"replay: the input cannot be read");
+        say_unread(b"replay", name);
         return p.stopped();
     }
     let came = io::count(got, &input[kept..]);
@@ -58,7 +59,14 @@ fn flush(output: &[u8], p: Progress) -> Progress
 
 // One turn: room for a line is made, then bytes for an operation are brought, then one operation is replayed. Lines go out
 // before more is read, since a read can wait for long.
-fn turn(fd: i32, room: &mut [u64], input: &mut [u8], output: &mut [u8], p: Progress) -> Progress
+fn turn(
+    fd: i32,
+    name: &[u8],
+    room: &mut [u64],
+    input: &mut [u8],
+    output: &mut [u8],
+    p: Progress,
+) -> Progress
     requires { ⌜ (p .end ≤ length (now input)) × (p .used ≤ length (now output)) × (32 ≤ length (now output)) ⌝ }
     ensures { λ r. ⌜ Turned (now (room .entry)) (now (input .entry)) (now (output .entry)) p (now (room .exit)) (now (input .exit)) (now (output .exit)) r ⌝ }
     ensures { λ r. ⌜ (r .end ≤ length (now (input .exit))) × (r .used ≤ length (now (output .exit))) ⌝ }
@@ -70,7 +78,7 @@ fn turn(fd: i32, room: &mut [u64], input: &mut [u8], output: &mut [u8], p: Progr
         if 0 < p.used {
             return flush(&output[..], p);
         }
-        return refill(fd, input, p);
+        return refill(fd, name, input, p);
     }
     replay_next(room, &input[..], output, p)
 }
@@ -89,13 +97,13 @@ fn report(name: &[u8], input: &[u8], p: Progress) {
 }
 
 // A proved loop has to end, and nothing says that a file does: the turns are counted down from a number that no run uses up.
-fn replay(fd: i32, room: &mut [u64], input: &mut [u8], output: &mut [u8]) -> Progress
+fn replay(fd: i32, name: &[u8], room: &mut [u64], input: &mut [u8], output: &mut [u8]) -> Progress
     requires { ⌜ 32 ≤ length (now output) ⌝ }
 {
     let mut p = Progress::start();
     let mut turns = u64::MAX;
     while turns > 0 && p.going {
-        p = turn(fd, room, input, output, p);
+        p = turn(fd, name, room, input, output, p);
         turns -= 1;
     }
     flush(&output[..], p);
@@ -107,10 +115,10 @@ fn replay_named(fd: i32, place: usize) {
     let mut room = [0u64; 192];
     let mut bytes = io::large_buffer();
     let mut lines = io::buffer();
-    let p = replay(fd, &mut room, &mut bytes, &mut lines);
+    let mut name = io::buffer();
+    let length = os::arg(place, &mut name);
+    let p = replay(fd, &name[..length], &mut room, &mut bytes, &mut lines);
     if p.damaged {
-        let mut name = io::buffer();
-        let length = os::arg(place, &mut name);
         report(&name[..length], &bytes, p);
     }
 }

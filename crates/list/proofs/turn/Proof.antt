@@ -19,13 +19,13 @@ turn-spec =
     (λ _ _. tt)
     (λ c.
     let l = c .before .before .before .before in
-    let p = l .before .args .p in
+    let p = l .before .before .args .p in
     (λ _. rw (eq-eqb (p .end - p .start) 0 (omega arith)) (c .stopped .ensures, refl), λ _. refl))
     (λ _ _. tt)
     (λ c.
     let e = c .before .before .before .before in
     let l = e .before .before in
-    let p = l .before .args .p in (
+    let p = l .before .before .args .p in (
       λ _. rw (ne-eqb (p .end - p .start) 0 (omega arith)) (c .operation-listed .ensures),
       λ more. not-both more (rw (l .left-of .ensures) at (e .if1 .left)),
     )))

@@ -11,7 +11,7 @@ use Rattle.replay.proofs.refill.Tie as tie
 
 -- The input keeps its length.
 long : (r : tie.After-read) → (let m = r .before .before .before .before in length (putMid (m .move-down .result) (length (m .move-down .last .0) - m .move-down .result) (m .move-down .last .0) (r .read .last .1 .0))
-    ≡ length (m .before .before .before .args .input .now))
+    ≡ length (m .before .before .before .before .args .input .now))
 long r =
     let m = r .before .before .before .before in
     same-len-mid (m .move-down .result) (length (m .move-down .last .0) - m .move-down .result) (m .move-down .last .0) (r .read .last .1 .0) (r .read .kept .1 .0)
@@ -27,7 +27,7 @@ returns-2 c =
     let d = c .before in
     let r = d .before .before .before .before .before .before in
     let m = r .before .before .before .before in
-    let a = m .before .before .before .args in
+    let a = m .before .before .before .before .args in
     let moved = m .move-down .ensures in
     let kept = m .move-down .result in
     let before = m .move-down .last .0 in

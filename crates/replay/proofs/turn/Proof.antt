@@ -15,20 +15,20 @@ turn-spec =
     (λ c κs. search needs)
     (λ c. search needs)
     (λ c.
-    let s = c .before .before .before .before .before .before .before in
+    let s = c .before .before .before .before .before .before .before .before in
     let a = s .args in
     after-write (a .room .now) (a .input .now) (a .output .now) (a .p) (s .pre .0) (c .flush .result) (c .flush .ensures))
     (λ _ _. tt)
     (λ c κs. search needs)
     (λ c. search needs)
     (λ c.
-    let s = c .before .before .before .before .before .before .before .before .before .before .before .before in
+    let s = c .before .before .before .before .before .before .before .before .before .before .before .before .before in
     let a = s .args in
     after-write (a .room .now) (a .input .now) (a .output .now) (a .p) (s .pre .0) (c .flush2 .result) (c .flush2 .ensures))
     (λ c κs. search needs)
     (λ c. search needs)
     (λ c.
-    let s = c .before .before .before .before .before .before .before .before .before .before .before .before .before .before in
+    let s = c .before .before .before .before .before .before .before .before .before .before .before .before .before .before .before in
     let done = c .before .before .refill .ensures in
     (reads refl refl (done .0), (done .1, omega (arith, done .0 .used, s .pre .1))))
     (λ _ _. tt)
@@ -38,7 +38,7 @@ turn-spec =
     (λ c.
     let done = c .before .before .before .before in
     let tests = done .before .before .before .before in
-    let s = tests .before .before .before .before .before .before .before .before in
+    let s = tests .before .before .before .before .before .before .before .before .before in
     let a = s .args in
     after-replay (a .room .now) (a .input .now) (a .output .now) (a .p) (s .pre .0) _ _ (done .replay-next .result) (done .replay-next .ensures) (done .replay-next .kept .1 .1 .0)
     (omega (arith, s .pre .2, tests .before .before .before .if1 .left))
