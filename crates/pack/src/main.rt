@@ -49,8 +49,10 @@ struct Work {
     operations: u64,
     // A carriage return that ends no line stands in what was read of it.
     returned: bool,
-    // The bytes before the buffer's first, those before the line's first, and the lines before the line.
+    // The bytes before the buffer's first, those of them that were left out of the word that starts there, those before the
+    // line's first, and the lines before the line.
     before: u64,
+    left_out: u64,
     line_start: u64,
     lines: u64,
     // How many bytes of the output are waiting.
@@ -120,6 +122,7 @@ fn shortened(bytes: &mut [u8; ROOM], mut w: Work) -> Work {
     let kept = past - 3;
     w.end = move_down(bytes, kept, ROOM);
     w.before = wrapping_add_u64(w.before, kept as u64);
+    w.left_out = wrapping_add_u64(w.left_out, kept as u64);
     if hexadecimal {
         bytes[1] = b'x';
     }
@@ -129,6 +132,9 @@ fn shortened(bytes: &mut [u8; ROOM], mut w: Work) -> Work {
 // The rest of the buffer at its front, and behind it what is read at once.
 fn refilled(input: i32, name: &[u8], bytes: &mut [u8; ROOM], mut w: Work) -> Work {
     w.before = wrapping_add_u64(w.before, w.start as u64);
+    if 0 < w.start {
+        w.left_out = 0;
+    }
     let left = move_down(bytes, w.start, w.end);
     w.start = 0;
     if left == ROOM {
@@ -210,10 +216,20 @@ fn put_operation(out: &mut [u8; ROOM], mut w: Work, x: Numbers) -> Work
     w
 }
 
+// How many bytes of the text stand before a place of the buffer.
+fn place_of(w: Work, at: usize) -> u64 {
+    let before = if at == 0 {
+        wrapping_sub_u64(w.before, w.left_out)
+    } else {
+        w.before
+    };
+    wrapping_add_u64(before, at as u64)
+}
+
 // Says what is wrong at a place, and reads no more.
 fn refused(name: &[u8], bytes: &[u8], w: Work, problem: Problem, at: usize) -> Work {
     let n = within(w.end, bytes);
-    let place = wrapping_add_u64(w.before, at as u64);
+    let place = place_of(w, at);
     let spot = Spot {
         line: wrapping_add_u64(w.lines, 1),
         column: wrapping_add_u64(wrapping_sub_u64(place, w.line_start), 1),
@@ -281,6 +297,7 @@ fn at_start() -> Work {
         operations: 0,
         returned: false,
         before: 0,
+        left_out: 0,
         line_start: 0,
         lines: 0,
         waiting: 0,
