@@ -51,60 +51,47 @@ module _ (s : State) where
   listed (counting-turned-on off on) = two (rw (off, on))
   listed (PAUSED-cleared was is) = three (rw (was, is))
 
-  pub is-occasion : {o : Operation} → Occasion s o → occasion s (changed s o) ≡ true
+  pub is-occasion : {o : Operation} → Occasion s o → occasion s o ≡ true
   unfolding occasion
   is-occasion {o} h =
       one-holds (prohibited s (s .level)) (not (counting s) && counting (changed s o)) (PAUSED s && not (PAUSED (changed s o))) (listed h)
 
-  -- Which test it is, by the state before and the state set.
-  which : (after : State) → occasion s after ≡ true
-      → OneOf (prohibited s (s .level)) (not (counting s) && counting after) (PAUSED s && not (PAUSED after))
+  -- What follows from each line of the definition follows from an occasion.
+  by-lines : (o : Operation) {P : Type 0} → (prohibited s (s .level) ≡ true → P)
+      → (counting s ≡ false → counting (changed s o) ≡ true → P)
+      → (PAUSED s ≡ true → PAUSED (changed s o) ≡ false → P)
+      → occasion s o ≡ true
+      → P
   unfolding occasion
-  which after h = which-holds (prohibited s (s .level)) (not (counting s) && counting after) (PAUSED s && not (PAUSED after)) h
+  by-lines o {P} level counts paused h =
+      go (which-holds (prohibited s (s .level)) (not (counting s) && counting (changed s o)) (PAUSED s && not (PAUSED (changed s o))) h)
+    where
+      go : OneOf (prohibited s (s .level)) (not (counting s) && counting (changed s o)) (PAUSED s && not (PAUSED (changed s o))) → P
+      go (one e) = level e
+      go (two e) = counts (search each) (search each)
+      go (three e) = paused (search each) (search each)
 
   -- Where neither register is changed, only the level can make one.
-  by-level : {o : Operation} (after : State) → counting after ≡ counting s → PAUSED after ≡ PAUSED s → occasion s after ≡ true → Occasion s o
-  by-level after c p h = go (which after h)
-    where
-      go : {o : Operation} → OneOf (prohibited s (s .level)) (not (counting s) && counting after) (PAUSED s && not (PAUSED after)) → Occasion s o
-      go (one e) = began-prohibited e
-      go (two e) =
-          let off : counting s ≡ false = search each in
-          let on : counting after ≡ true = search each in
-          never (cc)
-      go (three e) =
-          let was : PAUSED s ≡ true = search each in
-          let is : PAUSED after ≡ false = search each in
-          never (cc)
-
-  by-write : (register value : ℕ) → occasion s (changed s (Write register value)) ≡ true → Occasion s (Write register value)
-  by-write register value h = go (which (changed s (Write register value)) h)
-    where
-      after : State
-      after = changed s (Write register value)
-
-      go : OneOf (prohibited s (s .level)) (not (counting s) && counting after) (PAUSED s && not (PAUSED after)) → Occasion s (Write register value)
-      go (one e) = began-prohibited e
-      go (two e) = counting-turned-on {register = register} {value = value} (search each) (search each)
-      go (three e) = PAUSED-cleared {register = register} {value = value} (search each) (search each)
+  by-level : (o : Operation) → counting (changed s o) ≡ counting s → PAUSED (changed s o) ≡ PAUSED s → occasion s o ≡ true → Occasion s o
+  by-level o c p = by-lines o began-prohibited (λ off on. never (cc)) (λ was is. never (cc))
 
   -- There is no other. (A reset makes the next count unknown by itself.)
-  pub which-occasion : (o : Operation) → eqb (codeOf o) 0 ≡ false → occasion s (changed s o) ≡ true → Occasion s o
+  pub which-occasion : (o : Operation) → eqb (codeOf o) 0 ≡ false → occasion s o ≡ true → Occasion s o
   unfolding changed
-  which-occasion (Reset size v1p1) k h = never (cc)
-  which-occasion (Branch kind m source target) k h = by-level _ refl refl h
-  which-occasion (Exception kind level source target) k h = by-level _ refl refl h
-  which-occasion (Return level m source target) k h = by-level _ refl refl h
-  which-occasion (Platform p) k h = by-level _ refl refl h
-  which-occasion (Read r) k h = by-level _ refl refl h
-  which-occasion (Write r value) k h = by-write r value h
-  which-occasion Iall k h = by-level _ refl refl h
-  which-occasion Unknown k h = by-level _ refl refl h
+  which-occasion (Reset size v1p1) k = never (cc)
+  which-occasion (Branch kind m source target) k = by-level _ refl refl
+  which-occasion (Exception kind level source target) k = by-level _ refl refl
+  which-occasion (Return level m source target) k = by-level _ refl refl
+  which-occasion (Platform p) k = by-level _ refl refl
+  which-occasion (Read r) k = by-level _ refl refl
+  which-occasion (Write r value) k = by-lines _ began-prohibited counting-turned-on PAUSED-cleared
+  which-occasion Iall k = by-level _ refl refl
+  which-occasion Unknown k = by-level _ refl refl
 
   -- Where the operation sets nothing, only its level can be one.
-  pub unchanged-occasion : occasion s s ≡ prohibited s (s .level)
+  pub unchanged-occasion : (o : Operation) → changed s o ≡ s → occasion s o ≡ prohibited s (s .level)
   unfolding occasion
-  unchanged-occasion = go (prohibited s (s .level)) (counting s) (PAUSED s)
+  unchanged-occasion o same = rw same (go (prohibited s (s .level)) (counting s) (PAUSED s))
     where
       go : (level counts paused : Bool) → level || not counts && counts || paused && not paused ≡ level
       go true counts paused = refl

@@ -16,18 +16,21 @@ use Rattle.answer.specs.Answer.{isDone}
 use Rattle.access.specs.Access.{iallOutcome}
 use Rattle.operation.specs.declared.Operation.{Operation}
 use Rattle.operation.specs.declared.Operation.the-variants.{Reset, Branch, Exception, Return, Platform, Read, Write, Iall, Unknown}
+use Rattle.operation.specs.Changed.{changed}
 
--- An operation on which the next count becomes unknown, by the state before it and the state that it has set: it began at a
--- prohibited level (house: R_MJDLC speaks of leaving one); it turned counting on; or it cleared PAUSED. R_MJDLC has BRB IALL
--- too, which document 01 leaves out: docs/MANUAL.md, "Where the model and Arm differ". (Only a write can do the last two: a
--- reset turns both off, and makes the next count unknown by itself.)
-unfoldable pub occasion : State → State → Bool
-occasion before after =
-    prohibited before (before .level) || not (counting before) && counting after || PAUSED before && not (PAUSED after)
+-- An operation on which the next count becomes unknown, by the state before it, a line for each of R_MJDLC's third to fifth:
+-- it began at a prohibited level (house: R_MJDLC speaks of leaving one); it turned counting on; it cleared PAUSED. R_MJDLC has
+-- BRB IALL too, which document 01 leaves out: docs/MANUAL.md, "Where the model and Arm differ". (Only a write can do the last
+-- two, but for a reset, which makes the next count unknown by itself.)
+unfoldable pub occasion : State → Operation → Bool
+occasion s o =
+    prohibited s (s .level)
+    || not (counting s) && counting (changed s o)
+    || PAUSED s && not (PAUSED (changed s o))
 
 -- The running count once the operation's cycles are in it, before a record takes it.
-unfoldable pub passed : State → State → ℕ → Running
-passed before after cycles = ran (before .running) (occasion before after) cycles
+unfoldable pub passed : State → Operation → ℕ → Running
+passed s o cycles = ran (s .running) (occasion s o) cycles
 
 -- An event of this type and this mispredicted flag, from the current level to the one that it enters, with its source and
 -- its target address.

@@ -3,11 +3,12 @@
 ghost use mathlib.Core.Path.{_≡_};
 ghost use mathlib.Core.Bool.{false, cond};
 ghost use Rattle.answer.specs.Answer.{isDone};
+ghost use Rattle.state.specs.Named.{withRunning};
 ghost use Rattle.access.specs.Access.{writeOutcome, iallOutcome, meant, registerWritten};
 ghost use Rattle.event.specs.Event.{controlled, recordOf, becomesRecord};
 ghost use Rattle.filter.specs.Filter.{exceptionReturn, passesFilter};
 ghost use Rattle.operation.specs.Changed.{changed};
-ghost use Rattle.change.specs.Change.{occasion, passed, eventFrom, effectOf, runningAfter};
+ghost use Rattle.change.specs.Change.{passed, eventFrom, effectOf, runningAfter};
 use access::iall_outcome;
 use access::meant;
 use access::register_written;
@@ -47,7 +48,7 @@ fn written(s: State, r: u64, value: u64) -> State
 }
 
 // The state once the operation has set level, P or registers.
-pub fn changed(s: State, o: Operation) -> State
+fn changed(s: State, o: Operation) -> State
     ensures { λ x. ⌜ x ≡ changed s o ⌝ }
 {
     match o {
@@ -63,24 +64,20 @@ pub fn changed(s: State, o: Operation) -> State
     }
 }
 
-// An operation on which the next count becomes unknown; `after` is the state that it has changed.
-fn occasion(s: State, after: State) -> bool
-    ensures { λ r. ⌜ r ≡ occasion s after ⌝ }
+// The state once the operation has set level, P or registers and its cycles are in the running count, before a record takes
+// it. What it has set is at hand here, so that its occasions are found here.
+pub fn passed(s: State, o: Operation, cycles: u64) -> State
+    ensures { λ x. ⌜ x ≡ withRunning (passed s o cycles) (changed s o) ⌝ }
 {
+    let after = changed(s, o);
     let hidden = prohibited(s, s.level);
     let counting = s.counting();
     let counts = after.counting();
     let paused = s.paused();
     let pauses = after.paused();
-    hidden | !counting & counts | paused & !pauses
-}
-
-// The running count once the operation has passed.
-pub fn passed(s: State, after: State, cycles: u64) -> Running
-    ensures { λ r. ⌜ r ≡ passed s after cycles ⌝ }
-{
+    let occasion = hidden | !counting & counts | paused & !pauses;
     let r = s.running;
-    running::passed(r, occasion(s, after), cycles)
+    after.with_running(running::passed(r, occasion, cycles))
 }
 
 fn event_from(

@@ -64,7 +64,7 @@ unfolding accepted roomAfter
 inside-prohibited s {o} cycles room e source target = go (ℕ-discrete (refusalOf s o (length room)) 0)
   where
     go : Dec (refusalOf s o (length room) ≡ 0) → stepOf s o cycles room .room ≡ room
-    go (yes h) = rw (accepted-step s o cycles room h, effect-inside s (passed s (changed s o) cycles) e source target)
+    go (yes h) = rw (accepted-step s o cycles room h, effect-inside s (passed s o cycles) e source target)
     go (no h) = rw (refused-step s o cycles room h)
 
 -- ---- hidden-address-zero: a record holds 0 where the address of its prohibited side would stand
@@ -143,11 +143,11 @@ effect-records size (ResetTo n) room one enough = records-cleared n room enough
 -- decided by the definition `effectOf`, at the running count that the operations have brought.
 pub newest : (s : State) (o : Operation) (cycles : ℕ) (room : List ℕ) → refusalOf s o (length room) ≡ 0
     → records (changed s o .size) (stepOf s o cycles room .room)
-    ≡ recordsAfter (s .size) (effectOf s o (passed s (changed s o) cycles)) (records (s .size) room)
+    ≡ recordsAfter (s .size) (effectOf s o (passed s o cycles)) (records (s .size) room)
 unfolding accepted
 newest s o cycles room h =
     let a = accepts s o (length room) h in
-    let r = passed s (changed s o) cycles in
+    let r = passed s o cycles in
     let size = size-after s o r in
     rw (accepted-step s o cycles room h)
     (ap (λ (n : ℕ). records n (roomAfter (s .size) (effectOf s o r) room)) size
@@ -216,6 +216,6 @@ not-performed s {o} cycles room h a ended = rw (accepted-step s o cycles room h)
   where
     go : {o : Operation} → IsAccess o → isDone (answerOf s o room) ≡ false
         → accepted s o cycles room ≡ together (answerOf s o room) (withRunning (ran (s .running) (prohibited s (s .level)) cycles) s) room
-    go read e = rw (unchanged-occasion s)
-    go (write {r = r}) e = rw (e, unchanged-occasion s)
-    go iall e = rw (e, unchanged-occasion s)
+    go (read {r = r}) e = rw (unchanged-occasion s (Read r) refl)
+    go (write {r = r} {value = value}) e = rw (e, unchanged-occasion s (Write r value) (rw e))
+    go iall e = rw (e, unchanged-occasion s Iall refl)

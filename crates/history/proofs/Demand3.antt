@@ -49,7 +49,7 @@ good-step x t g = go (isAccepted (x .machine) t) refl
     s = x .machine .state
 
     r : Running
-    r = passed s (changed s (t .operation)) (t .cycles)
+    r = passed s (t .operation) (t .cycles)
 
     go : (b : Bool) → isAccepted (x .machine) t ≡ b → Good (notedStep x t)
     go true e =

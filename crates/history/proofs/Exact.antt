@@ -14,7 +14,6 @@ use Rattle.room.specs.declared.Effect.{Effect}
 use Rattle.room.specs.declared.Effect.the-variants.{Keep, Push, Clear, ResetTo}
 use Rattle.room.specs.Room.{zeroRecord, records, numbered, roomAfter}
 use Rattle.room.proofs.Laws.{records-pushed, records-cleared}
-use Rattle.operation.specs.Changed.{changed}
 use Rattle.operation.proofs.Laws.{accepts-if}
 use Rattle.change.specs.Change.{passed, effectOf}
 use Rattle.recorder.specs.Step.{accepted, stepOf}
@@ -54,7 +53,7 @@ outcome x t = go (isAccepted (x .machine) t) refl
     m = x .machine
 
     r : Running
-    r = passed (m .state) (changed (m .state) (t .operation)) (t .cycles)
+    r = passed (m .state) (t .operation) (t .cycles)
 
     go : (b : Bool) → isAccepted m t ≡ b → Outcome m t (x .notes) (notedStep x t .notes) (notedStep x t .clock)
     go true e =

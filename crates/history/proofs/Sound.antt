@@ -103,11 +103,11 @@ set-after {s} (Write r value) a t = written s (isDone (writeOutcome s r)) (meant
 set-after Iall a t = t
 set-after Unknown a t = t
 
-counts-passed : (before after : State) (cycles : ℕ) → Counts (before .running) → Counts (passed before after cycles)
+counts-passed : (s : State) (o : Operation) (cycles : ℕ) → Counts (s .running) → Counts (passed s o cycles)
 unfolding passed
-counts-passed before after cycles c = record { count = le-leb (min (before .running .count + cycles) cap) cap (omega arith); unknown = either-flag (occasion before after) }
+counts-passed s o cycles c = record { count = le-leb (min (s .running .count + cycles) cap) cap (omega arith); unknown = either-flag (occasion s o) }
   where
-    either-flag : (f : Bool) → leb (cond f 1 (before .running .unknown)) 1 ≡ true
+    either-flag : (f : Bool) → leb (cond f 1 (s .running .unknown)) 1 ≡ true
     either-flag true = refl
     either-flag false = c .unknown
 
@@ -127,7 +127,7 @@ sound-kept m t h = go (isAccepted m t) refl
         rw e
         (sound-of (changed (m .state) (t .operation)) _
         (set-after (t .operation) (accepts-if (m .state) (t .operation) (length (m .room)) e) set)
-        (counts-after (effectOf (m .state) (t .operation) _) _ (counts-passed (m .state) (changed (m .state) (t .operation)) (t .cycles) counts)))
+        (counts-after (effectOf (m .state) (t .operation) _) _ (counts-passed (m .state) (t .operation) (t .cycles) counts)))
     go false e = rw e h
 
 pub sound-run : (m : Machine) (list : List Timed) → sound (m .state) ≡ true → sound (run m list .state) ≡ true

@@ -24,7 +24,6 @@ use Rattle.event.specs.Event.{countUnknown, packed, BRBINF, recordOf}
 use Rattle.operation.specs.declared.Operation.{Operation}
 use Rattle.operation.specs.declared.Operation.the-variants.{Reset}
 use Rattle.operation.specs.Operation.{codeOf}
-use Rattle.operation.specs.Changed.{changed}
 use Rattle.operation.proofs.Size.{Resets, is-reset, no-reset, resets, size-kept}
 use Rattle.operation.proofs.Laws.{accepts-if}
 use Rattle.change.specs.Change.{occasion, passed, effectOf, runningAfter}
@@ -42,7 +41,7 @@ abbrev flag : Machine → ℕ
 flag m = m .state .running .unknown
 
 abbrev ran : Machine → Timed → Running
-ran m t = passed (m .state) (changed (m .state) (t .operation)) (t .cycles)
+ran m t = passed (m .state) (t .operation) (t .cycles)
 
 -- What a step does to the running count: nothing where it is refused; else it takes the cycles and the occasion, a record takes it and a
 -- reset drops it.
@@ -79,7 +78,7 @@ step-ran m t = go (isAccepted m t) refl
 
 -- ---- the flag over several steps
 
-flag-passed : (m : Machine) (t : Timed) → ran m t .unknown ≡ cond (occasion (m .state) (changed (m .state) (t .operation))) 1 (flag m)
+flag-passed : (m : Machine) (t : Timed) → ran m t .unknown ≡ cond (occasion (m .state) (t .operation)) 1 (flag m)
 unfolding passed
 flag-passed m t = refl
 
@@ -90,7 +89,7 @@ count-passed m t = refl
 -- A set flag stays set, and so does one on an occasion: until a record is made.
 still-set : (m : Machine) (t : Timed) → flag m ≡ 1 → ran m t .unknown ≡ 1
 unfolding passed
-still-set m t set = go (occasion (m .state) (changed (m .state) (t .operation)))
+still-set m t set = go (occasion (m .state) (t .operation))
   where
     go : (o : Bool) → cond o 1 (flag m) ≡ 1
     go true = refl
@@ -170,9 +169,9 @@ origin m (t ∷ list) set = go (origin (stepped m t) list set)
 
     step : Ran m t → howMany makesRecord (stepped m t) list ≡ 0 → flag (stepped m t) ≡ 1 → Origin m (t ∷ list)
     step (refuses no-step same) others f = start (quiet (rw no-step) others) (rw same at f)
-    step (goes-on is push no-start code runs) others f = passing (either (occasion (m .state) (changed (m .state) (t .operation))))
+    step (goes-on is push no-start code runs) others f = passing (either (occasion (m .state) (t .operation)))
       where
-        passing : (occasion (m .state) (changed (m .state) (t .operation)) ≡ true) ⊎ (occasion (m .state) (changed (m .state) (t .operation)) ≡ false)
+        passing : (occasion (m .state) (t .operation) ≡ true) ⊎ (occasion (m .state) (t .operation) ≡ false)
             → Origin m (t ∷ list)
         passing (inl h) =
             since [] (t ∷ list) refl (quiet (rw (is, push)) others) (inr (now is (which-occasion (m .state) (t .operation) code h)))
@@ -273,15 +272,15 @@ module _ {m : Machine} {list : List Timed} (from : FromReset m list) (t : Timed)
   none-in = refl
 
   flag-why : ran (run m list) t .unknown ≡ 1 → CountUnknown m list t
-  flag-why set = go (either (occasion (run m list .state) (changed (run m list .state) (t .operation))))
+  flag-why set = go (either (occasion (run m list .state) (t .operation)))
     where
       by-origin : Origin m list → CountUnknown m list t
       by-origin (start none f) = since-start t from none f
       by-origin (since before after e none (inl o)) = no-record before after e none o
       by-origin (since before after e none (inr o)) = on-occasion before after e none (occurs-more (t ∷ []) o)
 
-      go : (occasion (run m list .state) (changed (run m list .state) (t .operation)) ≡ true)
-          ⊎ (occasion (run m list .state) (changed (run m list .state) (t .operation)) ≡ false)
+      go : (occasion (run m list .state) (t .operation) ≡ true)
+          ⊎ (occasion (run m list .state) (t .operation) ≡ false)
           → CountUnknown m list t
       go (inl h) =
           on-occasion list [] (sym (append-nil list)) none-in (now is (which-occasion (run m list .state) (t .operation) (no-reset-makes (run m list) t new makes (resets (t .operation))) h))

@@ -21,7 +21,6 @@ use Rattle.room.specs.Room.{zeroRecord, records, numbered}
 use Rattle.operation.specs.declared.Operation.{Operation}
 use Rattle.operation.specs.declared.Operation.the-variants.{Reset}
 use Rattle.operation.specs.Refusal.{refusalOf}
-use Rattle.operation.specs.Changed.{changed}
 use Rattle.change.specs.Change.{passed, effectOf}
 use Rattle.recorder.specs.Step.{stepOf}
 
@@ -72,7 +71,7 @@ isAccepted m t = eqb (refusalOf (m .state) (t .operation) (length (m .room))) 0
 
 -- What an accepted operation does to the records.
 abbrev pub effectIn : Machine → Timed → Effect
-effectIn m t = effectOf (m .state) (t .operation) (passed (m .state) (changed (m .state) (t .operation)) (t .cycles))
+effectIn m t = effectOf (m .state) (t .operation) (passed (m .state) (t .operation) (t .cycles))
 
 -- A reset (Start) starts the clock anew; BRB IALL (Clear) lets it run on. `now` is the clock with the operation's cycles.
 abbrev pub clockAfter : Effect → ℕ → ℕ

@@ -36,7 +36,7 @@ answerOf s Unknown room = Done
 -- and then a record takes the running count.
 unfoldable pub accepted : State → Operation → ℕ → List ℕ → Result Answer State
 accepted s o cycles room =
-    let running = passed s (changed s o) cycles in
+    let running = passed s o cycles in
     let effect = effectOf s o running in
     together (answerOf s o room) (withRunning (runningAfter effect running) (changed s o)) (roomAfter (s .size) effect room)
 

@@ -9,7 +9,6 @@ use access::read_outcome;
 use access::register_value;
 use access::write_outcome;
 use answer::Answer;
-use change::changed;
 use change::effect_of;
 use change::passed;
 use change::running_after;
@@ -61,8 +60,8 @@ fn accept(s: State, room: &mut [u64], o: Operation, cycles: u64) -> Stepped
     ensures { λ r. ⌜ together (r .answer) (r .state) (now (room .exit)) ≡ accepted s o cycles (now (room .entry)) ⌝ }
 {
     let answer = answer_of(s, &room[..], o);
-    let after = changed(s, o);
-    let running = passed(s, after, cycles);
+    let after = passed(s, o, cycles);
+    let running = after.running;
     let effect = effect_of(s, o, running);
     let state = after.with_running(running_after(effect, running));
     apply(room, s.size, effect);

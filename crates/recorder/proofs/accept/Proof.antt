@@ -6,4 +6,14 @@ use Rattle.recorder.proofs.accept.Tie as tie
 
 pub accept-spec : {M : Type 1} → statement M
 unfolding accepted
-accept-spec = tie.close (tie.spec (λ _ _. tt) (λ _ _. tt) (λ _ _. tt) (λ _ _. tt) (λ _ _. tt) (λ _ _. tt) (λ _ _. tt) (λ c. search needs) (λ c. cc))
+accept-spec =
+    tie.close
+    (tie.spec
+    (λ _ _. tt)
+    (λ _ _. tt)
+    (λ _ _. tt)
+    (λ _ _. tt)
+    (λ _ _. tt)
+    (λ _ _. tt)
+    (λ c. search needs)
+    (λ c. rw (c .before .before .apply .ensures, c .before .before .before .before .with-running .ensures, c .before .before .before .before .before .running-after .ensures, c .before .before .before .before .before .before .effect-of .ensures, c .before .before .before .before .before .before .before .before .passed .ensures, c .before .before .before .before .before .before .before .before .before .answer-of .ensures)))
