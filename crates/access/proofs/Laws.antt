@@ -8,6 +8,7 @@ use mathlib.Core.List.{List, [], _∷_}
 use borrow.Author.Tests.{le-leb, ne-eqb}
 use lib.Bits.{bitAnd}
 use lib.Dec.{eqb}
+use Rattle.bits.proofs.Cases.{or-true}
 use Rattle.bits.specs.Bits.{isSet}
 use Rattle.answer.specs.declared.Answer.{Answer}
 use Rattle.answer.specs.declared.Answer.the-variants.{Done, Undefined, Trap2, Trap3}
@@ -30,10 +31,6 @@ secureTrap s = not (eqb (SBRBE s) 0b11) && not (NS s)
 
 abbrev otherTrap : State → Bool
 otherTrap s = not (isSet 4 (s .p)) && NS s
-
-or-true : (t : Bool) → t || true ≡ true
-or-true true = refl
-or-true false = refl
 
 -- 'x0' is 0 or 2.
 x0 : (q : ℕ) → eqb (q % 4) 0 || eqb (q % 4) 2 ≡ not (eqb (q % 2) 1)

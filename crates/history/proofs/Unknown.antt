@@ -8,7 +8,7 @@ use mathlib.Core.List.{List, [], _∷_, _++_, append-nil}
 use borrow.Author.Tests.{eq-eqb, eqb-true, not-true}
 use lib.Dec.{eqb}
 use lib.ListN.{length}
-use Rattle.bits.proofs.Cases.{never, either, below-or-not}
+use Rattle.bits.proofs.Cases.{never, either, or-true, below-or-not}
 use Rattle.bits.proofs.Each.{each}
 use Rattle.count.specs.Count.{largestCount, encoded}
 use Rattle.count.proofs.Laws.{above, encoded-fits}
@@ -235,10 +235,6 @@ occurs-last m (x ∷ list) t (later rest) = ⊎-elim (λ o. inl (later o)) (λ s
 unknown-if : (s : State) (r : Running) → (counting s ≡ false) ⊎ (r .unknown ≡ 1) → countUnknown s r ≡ true
 unfolding countUnknown
 unknown-if s r (inl off) = rw off (or-true (eqb (r .unknown) 1))
-  where
-    or-true : (a : Bool) → a || true ≡ true
-    or-true true = refl
-    or-true false = refl
 unknown-if s r (inr set) = rw (eq-eqb (r .unknown) 1 set)
 
 unknown-by : (s : State) (r : Running) → countUnknown s r ≡ true → (counting s ≡ false) ⊎ (r .unknown ≡ 1)

@@ -8,7 +8,7 @@ use mathlib.Core.List.{List, [], _∷_, _++_}
 use borrow.Author.Tests.{eqb-true}
 use lib.Dec.{ltb, eqb}
 use lib.ListN.{length, drop}
-use Rattle.bits.proofs.Cases.{either, never}
+use Rattle.bits.proofs.Cases.{either, never, one-of-two}
 use Rattle.operation.specs.Operation.{lastCode}
 use Rattle.recording.specs.Recording.{fieldCount}
 use Rattle.notation.specs.declared.Begun.{Begun}
@@ -48,10 +48,6 @@ both-words rest begun (b ∷ word) at to f g same = go (meaningOf (b ∷ word))
     go (wrong problem) = refl
 
 -- What ends an operation is no white space.
-one-of-two : (t u : Bool) → t || u ≡ true → (t ≡ true) ⊎ (u ≡ true)
-one-of-two true u e = inl refl
-one-of-two false u e = inr e
-
 end-no-blank : (b : ℕ) → endsOperation b ≡ true → isBlank b ≡ false
 end-no-blank b e =
     ⊎-elim (λ (f : eqb b 35 || eqb b 47 ≡ true).
