@@ -1,5 +1,8 @@
-/* A proved model of one processor's Arm branch record buffer (BRBE), version 0.1.0. docs/MANUAL.md says all of it: what
+/* A proved model of one processor's Arm branch record buffer (BRBE), version 0.2.0. docs/MANUAL.md says all of it: what
  * each operation does, each register, each refusal.
+ *
+ * What changed for a host in 0.2.0: a BRB IALL that is performed makes the next count unknown, as on the chip; one that is
+ * undefined or traps does not. No name, type or number of this file changed but the version's, and no call.
  *
  * The model keeps nothing between calls: the host lends it the state and the records, and each call changes them in
  * place or, where it refuses, leaves every lent number as it was. No call allocates, blocks or fails otherwise.
@@ -46,9 +49,9 @@ extern "C" {
 
 /* This header's version. It grows in MAJOR where a host has to change, in MINOR where something is added. */
 #define BRB_VERSION_MAJOR 0
-#define BRB_VERSION_MINOR 1
+#define BRB_VERSION_MINOR 2
 #define BRB_VERSION_PATCH 0
-#define BRB_VERSION "0.1.0"
+#define BRB_VERSION "0.2.0"
 
 /* A constant of 64 bits. C89 has no literal for it, and C++ warns of C's casts. */
 #ifdef __cplusplus

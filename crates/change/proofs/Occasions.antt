@@ -1,99 +1,107 @@
--- The occasions on which the next count becomes unknown, as document 01 lists them ("Cycles"), and that they are those of the definition.
+-- The occasions on which the next count becomes unknown, as document 01 ("Cycles") and document 02 (One) list them, and that they are those of the definition.
 use Prim.Native.Nat.{ℕ}
-use mathlib.Core.Path.{_≡_, refl}
+use mathlib.Core.Path.{_≡_, refl, ap, _∙_}
 use mathlib.Core.Bool.{Bool, true, false, cond, _&&_, _||_, not}
-use mathlib.Core.Logic.{_⊎_, inl, inr}
+use mathlib.Core.Logic.{⊎-elim}
 use lib.Dec.{eqb}
-use Rattle.bits.proofs.Cases.{never, either}
+use Rattle.bits.proofs.Cases.{never, or-true, one-of-two}
 use Rattle.bits.proofs.Each.{each}
 use Rattle.state.specs.declared.State.{State}
 use Rattle.state.specs.Named.{counting, PAUSED}
 use Rattle.region.specs.Region.{prohibited}
+use Rattle.answer.specs.Answer.{isDone}
+use Rattle.access.specs.Access.{iallOutcome}
 use Rattle.operation.specs.declared.Operation.{Operation}
 use Rattle.operation.specs.declared.Operation.the-variants.{Reset, Branch, Exception, Return, Platform, Read, Write, Iall, Unknown}
 use Rattle.operation.specs.Operation.{codeOf}
 use Rattle.operation.specs.Changed.{changed}
-use Rattle.change.specs.Change.{occasion}
+use Rattle.change.specs.Change.{turnedCountingOn, clearedPAUSED, performedIALL, occasion}
 
--- The listed occasions, one by one (document 01, "Cycles"; R_MJDLC): any operation that began at a prohibited level; a write that turned
--- counting on; a write that cleared PAUSED.
+-- The listed occasions, one by one (document 01, "Cycles"; document 02, One; R_MJDLC): any operation that began at a prohibited level; a write
+-- that turned counting on; a write that cleared PAUSED; a BRB IALL that was performed.
 pub data Occasion (s : State) : Operation → Type 0 where
   began-prohibited : {o : Operation} → prohibited s (s .level) ≡ true → Occasion s o
   counting-turned-on : {register value : ℕ} → counting s ≡ false → counting (changed s (Write register value)) ≡ true
       → Occasion s (Write register value)
   PAUSED-cleared : {register value : ℕ} → PAUSED s ≡ true → PAUSED (changed s (Write register value)) ≡ false
       → Occasion s (Write register value)
+  IALL-performed : isDone (iallOutcome s) ≡ true → Occasion s Iall
 
--- One of three tests holds.
-data OneOf (a b c : Bool) : Type 0 where
-  one : a ≡ true → OneOf a b c
-  two : b ≡ true → OneOf a b c
-  three : c ≡ true → OneOf a b c
+-- A line that holds makes its part of the whole hold.
+by-line : {line : Bool} (whole : Bool → Bool) → whole true ≡ true → line ≡ true → whole line ≡ true
+by-line whole holds h = ap whole h ∙ holds
 
-one-holds : (a b c : Bool) → OneOf a b c → a || b || c ≡ true
-one-holds a b c (one h) = rw h
-one-holds true b c (two h) = refl
-one-holds false b c (two h) = rw h
-one-holds true b c (three h) = refl
-one-holds false true c (three h) = refl
-one-holds false false c (three h) = h
-
-which-holds : (a b c : Bool) → a || b || c ≡ true → OneOf a b c
-which-holds true b c h = one refl
-which-holds false true c h = two refl
-which-holds false false c h = three h
+and-not : {a b : Bool} → a ≡ true → b ≡ false → a && not b ≡ true
+and-not h k = rw (h, k)
 
 module _ (s : State) where
-  -- Each of them is an occasion of the definition.
-  listed : {o : Operation} → Occasion s o
-      → OneOf (prohibited s (s .level)) (not (counting s) && counting (changed s o)) (PAUSED s && not (PAUSED (changed s o)))
-  listed (began-prohibited h) = one h
-  listed (counting-turned-on off on) = two (rw (off, on))
-  listed (PAUSED-cleared was is) = three (rw (was, is))
+  abbrev level : Bool
+  level = prohibited s (s .level)
 
+  -- Each of them is an occasion of the definition, by its line.
   pub is-occasion : {o : Operation} → Occasion s o → occasion s o ≡ true
   unfolding occasion
-  is-occasion {o} h =
-      one-holds (prohibited s (s .level)) (not (counting s) && counting (changed s o)) (PAUSED s && not (PAUSED (changed s o))) (listed h)
+  is-occasion {o} (began-prohibited h) = by-line (λ t. t || turnedCountingOn s o || clearedPAUSED s o || performedIALL s o) refl h
+  is-occasion {o} (counting-turned-on off on) =
+      by-line (λ t. level || t || clearedPAUSED s o || performedIALL s o) (rw (or-true level)) (rw (off, on))
+  is-occasion {o} (PAUSED-cleared was is) =
+      by-line (λ t. level || turnedCountingOn s o || t || performedIALL s o) (rw (or-true (level || turnedCountingOn s o))) (and-not was is)
+  is-occasion {o} (IALL-performed done) =
+      by-line (λ t. level || turnedCountingOn s o || clearedPAUSED s o || t) (or-true (level || turnedCountingOn s o || clearedPAUSED s o)) (cc)
 
   -- What follows from each line of the definition follows from an occasion.
-  by-lines : (o : Operation) {P : Type 0} → (prohibited s (s .level) ≡ true → P)
-      → (counting s ≡ false → counting (changed s o) ≡ true → P)
-      → (PAUSED s ≡ true → PAUSED (changed s o) ≡ false → P)
+  by-lines : (o : Operation) {P : Type 0} → (level ≡ true → P) → (turnedCountingOn s o ≡ true → P) → (clearedPAUSED s o ≡ true → P)
+      → (performedIALL s o ≡ true → P)
       → occasion s o ≡ true
       → P
   unfolding occasion
-  by-lines o {P} level counts paused h =
-      go (which-holds (prohibited s (s .level)) (not (counting s) && counting (changed s o)) (PAUSED s && not (PAUSED (changed s o))) h)
+  by-lines o {P} first second third fourth h = ⊎-elim up-to-third fourth (one-of-two _ (performedIALL s o) h)
     where
-      go : OneOf (prohibited s (s .level)) (not (counting s) && counting (changed s o)) (PAUSED s && not (PAUSED (changed s o))) → P
-      go (one e) = level e
-      go (two e) = counts (search each) (search each)
-      go (three e) = paused (search each) (search each)
+      up-to-second : level || turnedCountingOn s o ≡ true → P
+      up-to-second h = ⊎-elim first second (one-of-two _ (turnedCountingOn s o) h)
 
-  -- Where neither register is changed, only the level can make one.
-  by-level : (o : Operation) → counting (changed s o) ≡ counting s → PAUSED (changed s o) ≡ PAUSED s → occasion s o ≡ true → Occasion s o
-  by-level o c p = by-lines o began-prohibited (λ off on. never (cc)) (λ was is. never (cc))
+      up-to-third : level || turnedCountingOn s o || clearedPAUSED s o ≡ true → P
+      up-to-third h = ⊎-elim up-to-second third (one-of-two _ (clearedPAUSED s o) h)
+
+  -- Where both registers are as they were, counting was not turned on and PAUSED not cleared.
+  unturned : (o : Operation) {P : Type 0} → counting (changed s o) ≡ counting s → turnedCountingOn s o ≡ true → P
+  unturned o same h =
+      let off : counting s ≡ false = search each in
+      let on : counting (changed s o) ≡ true = search each in
+      never (cc)
+
+  uncleared : (o : Operation) {P : Type 0} → PAUSED (changed s o) ≡ PAUSED s → clearedPAUSED s o ≡ true → P
+  uncleared o same h =
+      let was : PAUSED s ≡ true = search each in
+      let is : PAUSED (changed s o) ≡ false = search each in
+      never (cc)
+
+  -- ... and only the level can make an occasion, unless it is BRB IALL.
+  by-level : (o : Operation) → counting (changed s o) ≡ counting s → PAUSED (changed s o) ≡ PAUSED s → eqb (codeOf o) 7 ≡ false
+      → occasion s o ≡ true
+      → Occasion s o
+  by-level o c p k = by-lines o began-prohibited (unturned o c) (uncleared o p) (λ h. never (cc (rw k at h)))
 
   -- There is no other. (A reset makes the next count unknown by itself.)
   pub which-occasion : (o : Operation) → eqb (codeOf o) 0 ≡ false → occasion s o ≡ true → Occasion s o
   unfolding changed
   which-occasion (Reset size v1p1) k = never (cc)
-  which-occasion (Branch kind m source target) k = by-level _ refl refl
-  which-occasion (Exception kind level source target) k = by-level _ refl refl
-  which-occasion (Return level m source target) k = by-level _ refl refl
-  which-occasion (Platform p) k = by-level _ refl refl
-  which-occasion (Read r) k = by-level _ refl refl
-  which-occasion (Write r value) k = by-lines _ began-prohibited counting-turned-on PAUSED-cleared
-  which-occasion Iall k = by-level _ refl refl
-  which-occasion Unknown k = by-level _ refl refl
+  which-occasion (Branch kind m source target) k = by-level _ refl refl refl
+  which-occasion (Exception kind level source target) k = by-level _ refl refl refl
+  which-occasion (Return level m source target) k = by-level _ refl refl refl
+  which-occasion (Platform p) k = by-level _ refl refl refl
+  which-occasion (Read r) k = by-level _ refl refl refl
+  which-occasion (Write r value) k =
+      by-lines _ began-prohibited (λ h. counting-turned-on (search each) (search each)) (λ h. PAUSED-cleared (search each) (search each)) (λ h. never (cc))
+  which-occasion Iall k = by-lines _ began-prohibited (unturned Iall refl) (uncleared Iall refl) IALL-performed
+  which-occasion Unknown k = by-level _ refl refl refl
 
-  -- Where the operation sets nothing, only its level can be one.
-  pub unchanged-occasion : (o : Operation) → changed s o ≡ s → occasion s o ≡ prohibited s (s .level)
+  -- Where the operation sets nothing and is no performed BRB IALL, only its level can be one.
+  pub unchanged-occasion : (o : Operation) → changed s o ≡ s → performedIALL s o ≡ false → occasion s o ≡ prohibited s (s .level)
   unfolding occasion
-  unchanged-occasion o same = rw same (go (prohibited s (s .level)) (counting s) (PAUSED s))
+  unchanged-occasion o same none = rw (same, none) (go level (counting s) (PAUSED s))
     where
-      go : (level counts paused : Bool) → level || not counts && counts || paused && not paused ≡ level
+      go : (level counts paused : Bool) → level || not counts && counts || paused && not paused || false ≡ level
       go true counts paused = refl
       go false true true = refl
       go false true false = refl

@@ -1,7 +1,8 @@
 -- What an accepted operation does to the running count and to the records: document 01, "Which events become records" and
--- "Cycles"; docs/MANUAL.md, "Exceptions and returns", "Records" and "Cycles".
+-- "Cycles"; document 02, One; docs/MANUAL.md, "Exceptions and returns", "Records" and "Cycles".
 use Prim.Native.Nat.{ℕ}
 use mathlib.Core.Bool.{Bool, cond, _&&_, _||_, not}
+use lib.Dec.{eqb}
 use Rattle.state.specs.declared.State.{State}
 use Rattle.state.specs.declared.Running.{Running}
 use Rattle.state.specs.Named.{counting, PAUSED, runningAfterReset}
@@ -16,17 +17,26 @@ use Rattle.answer.specs.Answer.{isDone}
 use Rattle.access.specs.Access.{iallOutcome}
 use Rattle.operation.specs.declared.Operation.{Operation}
 use Rattle.operation.specs.declared.Operation.the-variants.{Reset, Branch, Exception, Return, Platform, Read, Write, Iall, Unknown}
+use Rattle.operation.specs.Operation.{codeOf}
 use Rattle.operation.specs.Changed.{changed}
 
--- An operation on which the next count becomes unknown, by the state before it, a line for each of R_MJDLC's third to fifth:
--- it began at a prohibited level (house: R_MJDLC speaks of leaving one); it turned counting on; it cleared PAUSED. R_MJDLC has
--- BRB IALL too, which document 01 leaves out: docs/MANUAL.md, "Where the model and Arm differ". (Only a write can do the last
--- two, but for a reset, which makes the next count unknown by itself.)
+-- The operation turned counting on: a write, if it did so.
+abbrev pub turnedCountingOn : State → Operation → Bool
+turnedCountingOn s o = not (counting s) && counting (changed s o)
+
+-- The operation cleared PAUSED: a write, or a reset, which makes the next count unknown by itself.
+abbrev pub clearedPAUSED : State → Operation → Bool
+clearedPAUSED s o = PAUSED s && not (PAUSED (changed s o))
+
+-- The operation is a BRB IALL, code 7, and is performed: neither undefined nor trapped.
+abbrev pub performedIALL : State → Operation → Bool
+performedIALL s o = eqb (codeOf o) 7 && isDone (iallOutcome s)
+
+-- An operation on which the next count becomes unknown, by the state before it. The lines are R_MJDLC's third to sixth: it began
+-- at a prohibited level (house: R_MJDLC speaks of leaving one); it turned counting on; it cleared PAUSED; it was a BRB IALL that
+-- was executed (document 02, One, adds this line to document 01's three).
 unfoldable pub occasion : State → Operation → Bool
-occasion s o =
-    prohibited s (s .level)
-    || not (counting s) && counting (changed s o)
-    || PAUSED s && not (PAUSED (changed s o))
+occasion s o = prohibited s (s .level) || turnedCountingOn s o || clearedPAUSED s o || performedIALL s o
 
 -- The running count once the operation's cycles are in it, before a record takes it.
 unfoldable pub passed : State → Operation → ℕ → Running

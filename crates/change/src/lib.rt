@@ -1,14 +1,14 @@
 // What an accepted operation changes: level, P and registers, the running count, and the records (document 01, "Operations",
-// "Which events become records" and "Cycles").
+// "Which events become records" and "Cycles"; document 02, One).
 ghost use mathlib.Core.Path.{_≡_};
-ghost use mathlib.Core.Bool.{false, cond};
+ghost use mathlib.Core.Bool.{false, cond, _||_};
 ghost use Rattle.answer.specs.Answer.{isDone};
 ghost use Rattle.state.specs.Named.{withRunning};
 ghost use Rattle.access.specs.Access.{writeOutcome, iallOutcome, meant, registerWritten};
 ghost use Rattle.event.specs.Event.{controlled, recordOf, becomesRecord};
 ghost use Rattle.filter.specs.Filter.{exceptionReturn, passesFilter};
 ghost use Rattle.operation.specs.Changed.{changed};
-ghost use Rattle.change.specs.Change.{passed, eventFrom, effectOf, runningAfter};
+ghost use Rattle.change.specs.Change.{turnedCountingOn, clearedPAUSED, performedIALL, passed, eventFrom, effectOf, runningAfter};
 use access::iall_outcome;
 use access::meant;
 use access::register_written;
@@ -47,37 +47,58 @@ fn written(s: State, r: u64, value: u64) -> State
     }
 }
 
-// The state once the operation has set level, P or registers.
-fn changed(s: State, o: Operation) -> State
-    ensures { λ x. ⌜ x ≡ changed s o ⌝ }
-{
-    match o {
-        Operation::Reset { size, v1p1 } => State::after_reset(size, v1p1),
-        Operation::Branch { .. } => s,
-        Operation::Exception { target_level, .. } => s.at_level(target_level),
-        Operation::Return { target_level, .. } => s.at_level(target_level),
-        Operation::Platform { p } => s.with_platform(p),
-        Operation::Read { .. } => s,
-        Operation::Write { register, value } => written(s, register, value),
-        Operation::Iall => s,
-        Operation::Unknown => s,
-    }
+// What an operation has set, and whether the operation is an occasion by what it did, at whatever level.
+struct Settled {
+    state: State,
+    occasion: bool,
 }
 
-// The state once the operation has set level, P or registers and its cycles are in the running count, before a record takes
-// it. What it has set is at hand here, so that its occasions are found here.
-pub fn passed(s: State, o: Operation, cycles: u64) -> State
-    ensures { λ x. ⌜ x ≡ withRunning (passed s o cycles) (changed s o) ⌝ }
+fn settle(state: State, occasion: bool) -> Settled
+    ensures { λ x. ⌜ x ≡ record { state = state; occasion = occasion } ⌝ }
 {
-    let after = changed(s, o);
-    let hidden = prohibited(s, s.level);
+    Settled { state, occasion }
+}
+
+// A write, performed or not: whether it turned counting on or cleared PAUSED.
+fn write_settles(s: State, r: u64, value: u64) -> Settled
+    ensures { λ x. ⌜ x ≡ record { state = changed s (Operation.Write r value); occasion = turnedCountingOn s (Operation.Write r value) || clearedPAUSED s (Operation.Write r value) } ⌝ }
+{
+    let after = written(s, r, value);
     let counting = s.counting();
     let counts = after.counting();
     let paused = s.paused();
     let pauses = after.paused();
-    let occasion = hidden | !counting & counts | paused & !pauses;
+    settle(after, !counting & counts | paused & !pauses)
+}
+
+// Level, P and registers as the operation has set them. (A reset is no occasion that anybody could see: it makes the next
+// count unknown by itself.)
+fn settles(s: State, o: Operation) -> Settled
+    ensures { λ x. ⌜ (x .state ≡ changed s o) × (x .occasion ≡ (turnedCountingOn s o || clearedPAUSED s o || performedIALL s o)) ⌝ }
+{
+    match o {
+        Operation::Reset { size, v1p1 } => settle(State::after_reset(size, v1p1), s.paused()),
+        Operation::Branch { .. } => settle(s, false),
+        Operation::Exception { target_level, .. } => settle(s.at_level(target_level), false),
+        Operation::Return { target_level, .. } => settle(s.at_level(target_level), false),
+        Operation::Platform { p } => settle(s.with_platform(p), false),
+        Operation::Read { .. } => settle(s, false),
+        Operation::Write { register, value } => write_settles(s, register, value),
+        Operation::Iall => settle(s, iall_outcome(s).is_done()),
+        Operation::Unknown => settle(s, false),
+    }
+}
+
+// The state once the operation has set level, P or registers and its cycles are in the running count, before a record takes
+// it.
+pub fn passed(s: State, o: Operation, cycles: u64) -> State
+    ensures { λ x. ⌜ x ≡ withRunning (passed s o cycles) (changed s o) ⌝ }
+{
+    let settled = settles(s, o);
+    let hidden = prohibited(s, s.level);
+    let after = settled.state;
     let r = s.running;
-    after.with_running(running::passed(r, occasion, cycles))
+    after.with_running(running::passed(r, hidden | settled.occasion, cycles))
 }
 
 fn event_from(

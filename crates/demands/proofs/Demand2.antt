@@ -216,6 +216,6 @@ not-performed s {o} cycles room h a ended = rw (accepted-step s o cycles room h)
   where
     go : {o : Operation} → IsAccess o → isDone (answerOf s o room) ≡ false
         → accepted s o cycles room ≡ together (answerOf s o room) (withRunning (ran (s .running) (prohibited s (s .level)) cycles) s) room
-    go (read {r = r}) e = rw (unchanged-occasion s (Read r) refl)
-    go (write {r = r} {value = value}) e = rw (e, unchanged-occasion s (Write r value) (rw e))
-    go iall e = rw (e, unchanged-occasion s Iall refl)
+    go (read {r = r}) e = rw (unchanged-occasion s (Read r) refl refl)
+    go (write {r = r} {value = value}) e = rw (e, unchanged-occasion s (Write r value) (rw e) refl)
+    go iall e = rw (e, unchanged-occasion s Iall refl e)

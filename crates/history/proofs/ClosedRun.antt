@@ -100,8 +100,9 @@ closed-between =
       };
     }
 
--- Each of the listed occasions, and after it a record whose count is known again: PAUSED set and cleared; counting turned off and on; an
--- exception to EL3, which is prohibited, and back.
+-- Each of the listed occasions, and after it a record whose count is known again: BRB IALL, in `before`; PAUSED set and cleared; counting
+-- turned off and on; an exception to EL3, which is prohibited, and back. Then a BRB IALL that traps to EL2, by the P handed in there: the count
+-- after it is known, and has its cycles.
 abbrev occasions : List Timed
 occasions =
     before
@@ -114,13 +115,16 @@ occasions =
     ∷ operation 1 30 0 0 4100 4112
     ∷ operation 1 40 0 0 4100 4112
     ∷ operation 2 5 0x22 3 4100 4112
+    ∷ operation 4 1 0x131 0 0 0
     ∷ operation 3 6 1 0 4100 4112
     ∷ operation 1 50 0 0 4100 4112
     ∷ operation 1 60 0 0 4100 4112
+    ∷ operation 7 5 0 0 0 0
+    ∷ operation 1 70 0 0 4100 4112
     ∷ [])
 
 -- CCU and CC of the records, newest first.
 pub closed-occasions : map {B = ℕ × ℕ} (λ (r : Record). (CCU r, CC r)) (shown (run start occasions))
-    ≡ (0, 60) ∷ (1, 0) ∷ (0, 40) ∷ (1, 0) ∷ (0, 20) ∷ (1, 0) ∷ (0, 300) ∷ (0, 0) ∷ []
+    ≡ (0, 75) ∷ (0, 60) ∷ (1, 0) ∷ (0, 40) ∷ (1, 0) ∷ (0, 20) ∷ (1, 0) ∷ (1, 0) ∷ []
 unfolding bitLength exponent mantissa encoded countOf decoded unavailable sound records numbered pushed cleared roomAfter enabled prohibited filterBit passesFilter controlled valid countUnknown MPRED BRBINF recordOf becomesRecord nBit trapped2 outcome readOutcome writeOutcome iallOutcome registerWritten operationOf unknownCode notReset outsideList wrongLevel roomTooShort refusalOf changed occasion passed effectOf answerOf accepted stepOf stepped run notedStep notedRun stretch S acceptedCycles howMany
 closed-occasions = refl

@@ -16,6 +16,7 @@ pub mod seed;
 pub mod sequence;
 pub mod shares;
 pub mod shrink;
+pub mod since;
 pub mod single;
 
 pub use call::Call;
@@ -24,4 +25,5 @@ pub use random::Random;
 pub use sequence::Sequence;
 pub use shares::Shares;
 pub use shrink::Case;
+pub use since::Since;
 pub use single::Single;

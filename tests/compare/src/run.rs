@@ -3,7 +3,7 @@
 use crate::generate::{self, Flavour, Generator};
 use crate::sequence::Bed;
 use crate::shrink::shrink;
-use crate::{Engine, Random, Sequence, Shares, Single};
+use crate::{Engine, Random, Sequence, Shares, Since, Single};
 
 /// A shrunk case on which two engines disagree.
 #[derive(Clone, Debug)]
@@ -48,7 +48,7 @@ fn one_sequence(engines: [&dyn Engine; 2], random: &mut Random, shares: &mut Sha
     let (room, length) = (generate::room(random), generate::length(random));
     let flavour = random.one_of(&Flavour::ALL);
     let mut generator = Generator::new(random, flavour);
-    let mut bed = Bed::new(engines, room);
+    let (mut bed, mut since) = (Bed::new(engines, room), Since::default());
     let mut calls = Vec::with_capacity(length);
     for _ in 0..length {
         let mut before = [0; model::State::NUMBERS];
@@ -56,7 +56,7 @@ fn one_sequence(engines: [&dyn Engine; 2], random: &mut Random, shares: &mut Sha
         let call = generator.call(&before);
         calls.push(call);
         match bed.step(call) {
-            Ok((number, _)) => shares.note(&before, call, number, &bed.lent().room),
+            Ok((number, _)) => shares.note_in_sequence(&mut since, &before, call, number, bed.lent()),
             Err(_) => return Err(Sequence { room, calls }),
         }
     }
@@ -81,7 +81,9 @@ pub fn singles(
     for after in 0..operations {
         let (single, reason) = generate::single(random);
         match single.compare(engines) {
-            Ok(((number, _), lent)) => shares.note(&single.state, single.call, number, &lent.room),
+            Ok(((number, _), lent)) => {
+                shares.note(&single.state, single.call, number, &lent.room);
+            }
             Err(_) => return Err(of_single(engines, single, after)),
         }
         if let Some(reason) = reason {

@@ -1,11 +1,12 @@
 //! Which outcomes were met, and how often: a generator that never records proves nothing.
 
-use crate::Call;
+use crate::engine::Lent;
+use crate::{Call, Since};
 use model::{Cause, Document01, Rules, Shape};
 use std::fmt;
 
 /// What is counted, in groups.
-const GROUPS: [(&str, &[&str]); 4] = [
+const GROUPS: [(&str, &[&str]); 5] = [
     (
         "answers",
         &[
@@ -54,10 +55,19 @@ const GROUPS: [(&str, &[&str]); 4] = [
             "unknown above 1",
         ],
     ),
+    (
+        "counts after BRB IALL",
+        &["unknown by a performed one alone", "known after a trapped one", "known after an undefined one"],
+    ),
 ];
 
 /// How many reasons there are for a state not to be sound.
 pub const REASONS: usize = GROUPS[3].1.len();
+
+/// Classes of a record's count, by their places in the group of records.
+pub const KNOWN: usize = 0;
+pub const UNKNOWN: usize = 1;
+const EXCEEDED: usize = 2;
 
 /// How often each outcome was met.
 #[derive(Clone, Debug, Default)]
@@ -66,16 +76,29 @@ pub struct Shares {
 }
 
 impl Shares {
-    /// Notes an answered operation: the answer, what an accepted event became, and the count of its record.
-    pub fn note(&mut self, before: &[u64], call: Call, number: u64, room: &[u64]) {
+    /// Notes an answered operation: the answer, what an accepted event became, and the count of its record. Answers whether
+    /// there is one.
+    pub fn note(&mut self, before: &[u64], call: Call, number: u64, room: &[u64]) -> bool {
         self.met[0][answer_class(number)] += 1;
         if !call.is_event() || !matches!(number, 0) {
-            return;
+            return false;
         }
-        let Some((cause, shape)) = event_of(before, room.len(), call) else { return };
+        let Some((cause, shape)) = event_of(before, room.len(), call) else { return false };
         self.met[1][event_class(cause, shape)] += 1;
         if shape.is_some() {
             self.met[2][count_class(room[0])] += 1;
+        }
+        shape.is_some()
+    }
+
+    /// The same of a sequence's operation, with what came since the last record.
+    pub fn note_in_sequence(&mut self, since: &mut Since, before: &[u64], call: Call, number: u64, lent: &Lent) {
+        since.note(before, &lent.state, call, number);
+        if self.note(before, call, number, &lent.room) {
+            if let Some(class) = since.class(before, count_class(lent.room[0])) {
+                self.met[4][class] += 1;
+            }
+            *since = Since::default();
         }
     }
 
@@ -142,9 +165,9 @@ fn event_class(cause: Cause, shape: Option<Shape>) -> usize {
 
 fn count_class(inf: u64) -> usize {
     match (inf >> 46 & 1, inf >> 32 & 0x3FFF) {
-        (1, _) => 1,
-        (_, 0x3FFF) => 2,
-        _ => 0,
+        (1, _) => UNKNOWN,
+        (_, 0x3FFF) => EXCEEDED,
+        _ => KNOWN,
     }
 }
 

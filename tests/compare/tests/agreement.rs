@@ -34,7 +34,8 @@ fn single_calls_on_any_state() {
     let seed = seed::of_test("single calls", seed::from_clock);
     let mut shares = Shares::default();
     match run::singles(ENGINES, &mut Random::new(seed), SINGLE_CALLS, &mut shares) {
-        Ok(agreed) => report("single calls", agreed, &shares, &[]),
+        // What came since the last record is a sequence's.
+        Ok(agreed) => report("single calls", agreed, &shares, &["counts after BRB IALL"]),
         Err(disagreement) => panic!("seed {seed}: {disagreement}"),
     }
 }

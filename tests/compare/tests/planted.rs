@@ -287,10 +287,14 @@ planted! {
             state.count = 0;
         }
     })
-    ("BRB IALL makes the next count unknown", IallOccasion {
-        fn invalidate_all(&self, state: &mut State, room: &mut [u64]) {
-            Document01.invalidate_all(state, room);
-            state.unknown = true;
+    ("BRB IALL is no occasion", IallNoOccasion {
+        fn iall_is_occasion(&self, _: Outcome) -> bool {
+            false
+        }
+    })
+    ("a BRB IALL that is not performed is an occasion", TrappedIallOccasion {
+        fn iall_is_occasion(&self, _: Outcome) -> bool {
+            true
         }
     })
     ("SBRBE 1 prohibits whatever NS is", Sbrbe1Prohibits {

@@ -1,10 +1,10 @@
 //! Document 01 a second time, in plain Rust: one processor's branch record buffer, operation by operation.
 //!
-//! It is written from document 01, `docs/DECISIONS.md` and, for what is lent, `include/brb.h` alone, so that the proved
-//! library has something independent to be compared with. [`Rules`] holds one method a rule, in the document's order;
-//! [`Document01`] is the document as it stands. [`Recordings`] does the same for recordings, and [`Lines`] and [`Notation`]
-//! for what the programs `list` and `pack` print and read, which `docs/MANUAL.md` says. A test that wants to know whether an
-//! error would be found overrides one method.
+//! It is written from document 01, the requests of document 02 that have landed, `docs/DECISIONS.md` and, for what is lent,
+//! `include/brb.h` alone, so that the proved library has something independent to be compared with. [`Rules`] holds one
+//! method a rule, in the document's order; [`Document01`] is the document as it stands with these requests. [`Recordings`]
+//! does the same for recordings, and [`Lines`] and [`Notation`] for what the programs `list` and `pack` print and read, which
+//! `docs/MANUAL.md` says. A test that wants to know whether an error would be found overrides one method.
 //!
 //! ```
 //! use model::{Answer, Document01, Rules, State};

@@ -1,17 +1,18 @@
-//! The rules of document 01, one method a rule, in the document's order.
+//! The rules of document 01, one method a rule, in the document's order. A rule of document 02 stands with those that it
+//! adds to.
 
 use crate::{
     bit, buffer_size, count, exception_type, flag, room, Access, Answer, BranchType, Cause, Event, Level, Operation,
     Outcome, Platform, Record, Refusal, Register, Shape, State, CONTROL_MASK, FILTER_MASK, LAST_CODE,
 };
 
-/// Document 01 as it stands.
+/// Document 01 as it stands, with the requests of document 02 that have landed.
 #[derive(Clone, Copy, Debug, Default)]
 pub struct Document01;
 
 impl Rules for Document01 {}
 
-/// The rules. Each method's own body is document 01's rule; an implementation that overrides one is a wrong model, made
+/// The rules. Each method's own body is the document's rule; an implementation that overrides one is a wrong model, made
 /// to see whether a comparison finds the error.
 pub trait Rules {
     // ---------------------------------------------------------------------------------------------------------------
@@ -56,10 +57,14 @@ pub trait Rules {
                 self.write(state, self.meant(state, register), value);
                 Answer::Done
             }),
-            Operation::InvalidateAll => self.outcome(state, Access::InvalidateAll).or_else(|| {
-                self.invalidate_all(state, room);
-                Answer::Done
-            }),
+            Operation::InvalidateAll => {
+                let outcome = self.outcome(state, Access::InvalidateAll);
+                state.unknown |= self.iall_is_occasion(outcome);
+                outcome.or_else(|| {
+                    self.invalidate_all(state, room);
+                    Answer::Done
+                })
+            }
         }
     }
 
@@ -312,11 +317,17 @@ pub trait Rules {
         state.unknown |= self.prohibited(state, state.level);
     }
 
-    /// The other two occasions: a write that "turned counting on", or that "cleared PAUSED from 1".
+    /// The next two occasions: a write that "turned counting on", or that "cleared PAUSED from 1".
     fn write_is_occasion(&self, before: &State, after: &State) -> bool {
         let counting_on = after.counting() && !before.counting();
         let paused_cleared = before.paused() && !after.paused();
         counting_on || paused_cleared
+    }
+
+    /// The last occasion (document 02, request One): "an IALL that is performed is an occasion, a trapped or undefined one
+    /// is not." One that began at a prohibited level is the first of the occasions all the same.
+    fn iall_is_occasion(&self, outcome: Outcome) -> bool {
+        outcome == Outcome::Performed
     }
 
     /// Whether a record made now shows its count as unknown.
@@ -430,7 +441,7 @@ pub trait Rules {
         value & if register == Register::Fcr { FILTER_MASK } else { CONTROL_MASK }
     }
 
-    /// "BRB IALL sets every record to zero and lets the count run on."
+    /// "BRB IALL sets every record to zero and lets the count run on." That it is an occasion is a rule of its own.
     fn invalidate_all(&self, state: &mut State, room: &mut [u64]) {
         room::clear(room, state.size);
     }

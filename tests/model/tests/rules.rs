@@ -1,4 +1,5 @@
-//! Document 01's rules by small examples: the marked cases P9 to P11, each refusal, and the easy errors.
+//! Document 01's rules by small examples: the marked cases P9 to P11, each refusal, and the easy errors; and document 02's
+//! rule on BRB IALL.
 
 use model::{Answer, BranchType, Document01, Refusal, Rules, State};
 
@@ -155,8 +156,65 @@ fn occasions_end_with_the_record() {
     session.run("6 0 3 65664 / 6 0 3 65536 / 1 3 0 0 0 0");
     assert_eq!(session.newest()[0], 1 << 46 | 1 << 6 | 3, "a write cleared PAUSED");
     session.run("7 600 / 1 3 0 1 0 0");
-    assert_eq!(session.newest()[0], 0x22D << 32 | 1 << 6 | 1 << 5 | 3, "BRB IALL lets the count run on");
+    assert_eq!(session.newest()[0], 1 << 46 | 1 << 6 | 1 << 5 | 3, "a BRB IALL was performed");
     assert_eq!(session.room[3..24], [0; 21]);
+    session.run("1 3 0 0 0 0");
+    assert_eq!(session.newest()[0], 3 << 32 | 1 << 6 | 3, "the count after that one is known again");
+}
+
+/// "BRB IALL sets every record to zero and lets the count run on": its own cycles are added, and what was counted stays.
+#[test]
+fn a_performed_iall_lets_the_count_run_on() {
+    let mut session = Session::fresh(24);
+    session.run(AT_EL1);
+    session.run("1 3 0 0 0 0 / 5 4 1");
+    assert_eq!(session.state[7..], [4, 0]);
+    assert_eq!(session.run("7 600"), Answer::Done);
+    assert_eq!(session.state[7..], [604, 1]);
+    assert_eq!(session.room, [0; 24]);
+    session.run("7 5 / 5 1 1");
+    assert_eq!(session.state[7..], [610, 1], "a second one and a read change no more than the count");
+    session.run("1 3 0 0 0 0");
+    assert_eq!(session.state[7..], [0, 0]);
+}
+
+/// "A trapped or undefined one is not": the next count is known and has its cycles, and the records stand.
+#[test]
+fn an_iall_that_is_not_performed_is_no_occasion() {
+    // The platform word, an event from EL1 that is a record, the level that it goes to, the answer there.
+    let cases = [
+        ("4 0 305", "3 0 1 0 0 0", 1, Answer::Trap2),
+        ("4 0 33", "3 0 1 0 0 0", 1, Answer::Trap3),
+        ("4 0 33", "2 0 34 2 0 0", 2, Answer::Trap3),
+        ("4 0 49", "3 0 0 0 0 0", 0, Answer::Undefined),
+    ];
+    for (platform, event, level, answer) in cases {
+        let mut session = Session::fresh(24);
+        session.run(&AT_EL1.replace("4 0 49", platform));
+        session.run(event);
+        let older = session.newest().to_vec();
+        assert_eq!(session.run("7 600"), answer);
+        session.run("1 3 0 0 0 0");
+        assert_eq!(session.newest()[0], 0x22D << 32 | level << 6 | 3, "{answer:?} at EL{level}");
+        assert_eq!(session.room[3..6], older);
+    }
+}
+
+/// Every accepted operation that "began at a prohibited level" is an occasion, a BRB IALL that is not performed too.
+#[test]
+fn an_iall_at_a_prohibited_level_is_an_occasion() {
+    let mut session = Session::fresh(24);
+    session.run(&AT_EL1.replace("4 0 49", "4 0 2353"));
+    session.run("1 0 0 0 0 0 / 6 0 1 12582937"); // E1BRE off: EL1 is prohibited
+    assert_eq!(session.state[7..], [0, 0], "the write began where recording was not prohibited");
+    assert_eq!(session.run("7 600"), Answer::Trap2);
+    assert_eq!(session.state[7..], [600, 1]);
+
+    session.run(AT_EL1);
+    session.run("6 0 1 12582938 / 3 0 0 0 0 0"); // E0BRE off: EL0 is prohibited, and the return a half-source record
+    assert_eq!(session.state[7..], [0, 0]);
+    assert_eq!(session.run("7 600"), Answer::Undefined);
+    assert_eq!(session.state[7..], [600, 1]);
 }
 
 #[test]
