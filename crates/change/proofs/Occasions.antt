@@ -1,6 +1,6 @@
 -- The occasions on which the next count becomes unknown, as document 01 ("Cycles") and document 02 (One) list them, and that they are those of the definition.
 use Prim.Native.Nat.{ℕ}
-use mathlib.Core.Path.{_≡_, refl, ap, _∙_}
+use mathlib.Core.Path.{_≡_, refl, sym, ap, _∙_}
 use mathlib.Core.Bool.{Bool, true, false, cond, _&&_, _||_, not}
 use mathlib.Core.Logic.{⊎-elim}
 use lib.Dec.{eqb}
@@ -26,6 +26,26 @@ pub data Occasion (s : State) : Operation → Type 0 where
   PAUSED-cleared : {register value : ℕ} → PAUSED s ≡ true → PAUSED (changed s (Write register value)) ≡ false
       → Occasion s (Write register value)
   IALL-performed : isDone (iallOutcome s) ≡ true → Occasion s Iall
+
+-- What is as it was is neither turned on nor cleared.
+pub unset : (counts paused t : Bool) → not counts && counts || paused && not paused || t ≡ t
+unset true true t = refl
+unset true false t = refl
+unset false true t = refl
+unset false false t = refl
+
+pub or-false : (t : Bool) → t || false ≡ t
+or-false true = refl
+or-false false = refl
+
+-- The level's line, then the operation's own three.
+pub lines : (s : State) (o : Operation) → prohibited s (s .level) || (turnedCountingOn s o || clearedPAUSED s o || performedIALL s o) ≡ occasion s o
+unfolding occasion
+lines s o = go (prohibited s (s .level)) (turnedCountingOn s o) (clearedPAUSED s o) (performedIALL s o)
+  where
+    go : (level a b c : Bool) → level || (a || b || c) ≡ level || a || b || c
+    go true a b c = refl
+    go false a b c = refl
 
 -- A line that holds makes its part of the whole hold.
 by-line : {line : Bool} (whole : Bool → Bool) → whole true ≡ true → line ≡ true → whole line ≡ true
@@ -98,12 +118,4 @@ module _ (s : State) where
 
   -- Where the operation sets nothing and is no performed BRB IALL, only its level can be one.
   pub unchanged-occasion : (o : Operation) → changed s o ≡ s → performedIALL s o ≡ false → occasion s o ≡ prohibited s (s .level)
-  unfolding occasion
-  unchanged-occasion o same none = rw (same, none) (go level (counting s) (PAUSED s))
-    where
-      go : (level counts paused : Bool) → level || not counts && counts || paused && not paused || false ≡ level
-      go true counts paused = refl
-      go false true true = refl
-      go false true false = refl
-      go false false true = refl
-      go false false false = refl
+  unchanged-occasion o same none = sym (lines s o) ∙ rw (same, none, unset (counting s) (PAUSED s) false, or-false level)
