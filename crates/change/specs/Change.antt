@@ -36,7 +36,11 @@ performedIALL s o = eqb (codeOf o) 7 && isDone (iallOutcome s)
 -- at a prohibited level (house: R_MJDLC speaks of leaving one); it turned counting on; it cleared PAUSED; it was a BRB IALL that
 -- was executed (document 02, One, adds this line to document 01's three).
 unfoldable pub occasion : State → Operation → Bool
-occasion s o = prohibited s (s .level) || turnedCountingOn s o || clearedPAUSED s o || performedIALL s o
+occasion s o =
+    prohibited s (s .level)
+    || turnedCountingOn s o
+    || clearedPAUSED s o
+    || performedIALL s o
 
 -- The running count once the operation's cycles are in it, before a record takes it.
 unfoldable pub passed : State → Operation → ℕ → Running
