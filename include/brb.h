@@ -47,7 +47,8 @@
 extern "C" {
 #endif
 
-/* This header's version. It grows in MAJOR where a host has to change, in MINOR where something is added. */
+/* This header's version. It grows in MAJOR where a host has to change, in MINOR where something is added or an answer becomes
+ * another. */
 #define BRB_VERSION_MAJOR 0
 #define BRB_VERSION_MINOR 2
 #define BRB_VERSION_PATCH 0
