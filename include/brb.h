@@ -1,8 +1,9 @@
-/* A proved model of one processor's Arm branch record buffer (BRBE), version 0.2.0. docs/MANUAL.md says all of it: what
+/* A proved model of one processor's Arm branch record buffer (BRBE), version 0.3.0. docs/MANUAL.md says all of it: what
  * each operation does, each register, each refusal.
  *
- * What changed for a host in 0.2.0: a BRB IALL that is performed makes the next count unknown, as on the chip; one that is
- * undefined or traps does not. No name, type or number of this file changed but the version's, and no call.
+ * What changed for a host in 0.3.0: brb_batch takes a whole run of recorded operations in one call, and BRB_ANSWER_NUMBERS and
+ * BRB_BATCH_NUMBERS say how much to lend for its answers. In 0.2.0: a BRB IALL that is performed makes the next count unknown,
+ * as on the chip; one that is undefined or traps does not. Nothing else changed but the version's numbers, and no call.
  *
  * The model keeps nothing between calls: the host lends it the state and the records, and each call changes them in
  * place or, where it refuses, leaves every lent number as it was. No call allocates, blocks or fails otherwise.
@@ -50,9 +51,9 @@ extern "C" {
 /* This header's version. It grows in MAJOR where a host has to change, in MINOR where something is added or an answer becomes
  * another. */
 #define BRB_VERSION_MAJOR 0
-#define BRB_VERSION_MINOR 2
+#define BRB_VERSION_MINOR 3
 #define BRB_VERSION_PATCH 0
-#define BRB_VERSION "0.2.0"
+#define BRB_VERSION "0.3.0"
 
 /* A constant of 64 bits. C89 has no literal for it, and C++ warns of C's casts. */
 #ifdef __cplusplus
@@ -228,6 +229,11 @@ extern "C" {
 #define BRB_NUMBER_BYTES 10
 #define BRB_OPERATION_BYTES 60
 
+/* How many numbers an answer of a batch has: its number and its value. And how many are enough for the answers of any run of
+ * so many bytes. */
+#define BRB_ANSWER_NUMBERS 2
+#define BRB_BATCH_NUMBERS(length) ((length) + 1)
+
 struct brb_answer {
     uint64_t number;
     uint64_t value;
@@ -302,6 +308,20 @@ struct brb_recorded {
  * where nothing else is refused. */
 struct brb_recorded brb_step_recorded(uint64_t *state, size_t state_numbers, uint64_t *room, size_t room_numbers,
                                       const uint8_t *bytes, size_t length, size_t at);
+
+/* A run of recorded operations in one call: what calls of brb_step_recorded do, one after another, from the first byte on. It
+ * ends with the bytes, or with the first operation that is answered 1 (a number is malformed, or the bytes end inside the
+ * operation) or 2 (a code above 7), which is the last one answered. Into `answers` goes what each call would answer:
+ * answers[2 * i] is the number and answers[2 * i + 1] the value of operation i, counted from 0. Any other refusal of an
+ * operation, its own 6 for the room too, stands in its two numbers, changes nothing, and the batch goes on.
+ * Answers 0 and how many operations were answered; or 7 where the state is not sound or its memory too short; else 6 where
+ * `answers` has fewer than BRB_ANSWER_NUMBERS numbers for each operation that is to be answered, the last one included. Both
+ * come before anything is done, with the value 0 and every lent number as it was. Numbers of `answers` past the answers are
+ * never written. BRB_BATCH_NUMBERS(length) numbers are always enough; with fewer the run may have to be read twice, first to
+ * count its operations. No bytes at all (a length of 0, NULL too) are 0 with 0, whatever `answers` is; no state at all is 7,
+ * no room at all is a matter of each operation. */
+struct brb_answer brb_batch(uint64_t *state, size_t state_numbers, uint64_t *room, size_t room_numbers,
+                            const uint8_t *bytes, size_t length, uint64_t *answers, size_t answer_numbers);
 
 #ifdef __cplusplus
 }

@@ -1,5 +1,6 @@
 -- The C face of recordings: bytes, numbers and places as they are lent and answered. Document 01, "Refusal numbers", the
--- paragraph under the table, and "Forms for each place"; docs/MANUAL.md, "Recordings" and "From C".
+-- paragraph under the table, and "Forms for each place"; document 02, "Two"; docs/MANUAL.md, "Recordings", "Batches" and
+-- "From C".
 use Prim.Native.Nat.{ℕ}
 use mathlib.Core.Bool.{cond}
 use mathlib.Core.List.{List}
@@ -15,6 +16,7 @@ use Rattle.recording.specs.declared.Reading.{Reading}
 use Rattle.recording.specs.Recording.{operationAt}
 use Rattle.recording.specs.Operations.{storedNumbers}
 use Rattle.recording.specs.RecordedStep.{Recorded, stepOfReading}
+use Rattle.batch.specs.Batch.{Batch, batched, batchOf}
 use Rattle.brb.specs.declared.BrbRecorded.{BrbRecorded}
 
 -- What reading an operation answers, and what it leaves in the lent numbers.
@@ -52,3 +54,11 @@ unfoldable pub recordedResult : List ℕ → List ℕ → List ℕ → ℕ → R
 recordedResult words room bytes at =
     ifSound (loaded words) (λ s. ofRecorded words (stepOfReading s room (operationAt bytes at)))
     (λ n. together (returnedAt (Refused n) at) words room)
+
+-- A batch with its answer as two numbers.
+abbrev pub batchInNumbers : Batch Answer → Batch Returned
+batchInNumbers b = batched (returned (b .answer)) (b .state) (b .room) (b .answers)
+
+-- The batch of a run: the state's numbers, the room, the run's bytes, and the lent place for answers.
+unfoldable pub batchResult : List ℕ → List ℕ → List ℕ → List ℕ → Batch Returned
+batchResult words room bytes answers = batchInNumbers (batchOf words room bytes answers)

@@ -7,12 +7,14 @@ ghost use Rattle.bank.specs.Bank.{bankShows};
 ghost use Rattle.recording.specs.Recording.{numbers, writingOf, writtenOperation};
 ghost use Rattle.recorder.specs.Result.{together};
 ghost use Rattle.brb.specs.Face.{stepResult};
-ghost use Rattle.brb.specs.Recordings.{readInto, readResult, returnedAt, recordedResult};
+ghost use Rattle.batch.specs.Batch.{batched};
+ghost use Rattle.brb.specs.Recordings.{readInto, readResult, returnedAt, recordedResult, batchResult};
 use answer::Answer;
 use answer::Returned;
 use bank::bank_inf;
 use bank::bank_source;
 use bank::bank_target;
+use batch::batch;
 use operation::operation_of;
 use recorder::lent_step;
 use recording::Numbers;
@@ -174,4 +176,18 @@ pub extern "C" fn brb_step_recorded(
         }
         Reading::Refused(number, place) => returned_at(Answer::Refused(number), place),
     }
+}
+
+// A run of recorded operations.
+#[no_mangle]
+pub extern "C" fn brb_batch(
+    state: &mut [u64],
+    room: &mut [u64],
+    bytes: &[u8],
+    answers: &mut [u64],
+) -> Returned
+    ensures { λ r. ⌜ batched r (now (state .exit)) (now (room .exit)) (now (answers .exit)) ≡ batchResult (now (state .entry)) (now (room .entry)) (now (bytes .entry)) (now (answers .entry)) ⌝ }
+{
+    let answer = batch(state, room, bytes, answers);
+    answer.returned()
 }

@@ -61,7 +61,7 @@ goes-on s room bytes at h = go (judged s)
   where
     read : (x : State) (r : Reading) → operationAt bytes at ≡ r → stopsReading (stepOfReading x room r .result .answer) ≡ false
         → (at < stepOfReading x room r .next) × (stepOfReading x room r .next ≤ length bytes)
-    read x (Operation n next) e g = operation-reach bytes at n next h e
+    read x (Operation n next) e g = let (further, within) = operation-reach bytes at n next h e in (omega arith, within)
     read x (Refused number place) e g =
         ⊎-elim (λ (one : number ≡ 1). never (cc (rw one at g))) (λ (two : number ≡ 2). never (cc (rw two at g))) (refused-by bytes at number place e)
 

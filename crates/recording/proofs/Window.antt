@@ -103,7 +103,7 @@ operation-window bytes more at h =
 -- ---- how far an operation reaches
 
 numbers-reach : (k : ℕ) (bytes : List ℕ) (at : ℕ) (list : List ℕ) (next : ℕ) → at ≤ length bytes → numbersAt k bytes at ≡ got list next
-    → (at ≤ next) × (next ≤ length bytes)
+    → (at + k ≤ next) × (next ≤ length bytes)
 unfolding numbersAt
 numbers-reach zero bytes at list next h e = let same : at ≡ next = cc in (omega arith, omega arith)
 numbers-reach (suc k) bytes at list next h e =
@@ -116,11 +116,11 @@ numbers-reach (suc k) bytes at list next h e =
 
 code-reach : (bytes : List ℕ) (at : ℕ) (f : Found) (x : Numbers) (next : ℕ) → ((code p : ℕ) → f ≡ Value code p → (at < p) × (p ≤ length bytes))
     → afterCode bytes at f ≡ Operation x next
-    → (at < next) × (next ≤ length bytes)
+    → (at + 2 ≤ next) × (next ≤ length bytes)
 code-reach bytes at (Value code p) x next first e = go (ltb lastCode code) e
   where
     go : (t : Bool) → cond t (Refused 2 at) (withFields code (numbersAt (suc (fieldCount code)) bytes p)) ≡ Operation x next
-        → (at < next) × (next ≤ length bytes)
+        → (at + 2 ≤ next) × (next ≤ length bytes)
     go true h = never (cc)
     go false h =
         let one = first code p refl in
@@ -130,9 +130,9 @@ code-reach bytes at (Value code p) x next first e = go (ltb lastCode code) e
 code-reach bytes at Malformed x next first e = never (cc)
 code-reach bytes at Ended x next first e = never (cc)
 
--- An operation that was read has a byte at least, and ends within the input.
+-- An operation that was read has two bytes at least, and ends within the input.
 pub operation-reach : (bytes : List ℕ) (at : ℕ) (x : Numbers) (next : ℕ) → at ≤ length bytes → operationAt bytes at ≡ Operation x next
-    → (at < next) × (next ≤ length bytes)
+    → (at + 2 ≤ next) × (next ≤ length bytes)
 unfolding operationAt
 operation-reach bytes at x next h e =
     code-reach bytes at (numberAt bytes at) x next
