@@ -23,7 +23,9 @@ use Rattle.state.specs.declared.State.{State}
 use Rattle.state.specs.Named.{sizes}
 use Rattle.state.specs.Parts.{stateNumbers, stateOf}
 use Rattle.state.specs.Sound.{sound}
-use Rattle.state.specs.Words.{judged, loaded}
+use Rattle.state.specs.declared.Loaded.{Loaded}
+use Rattle.state.specs.declared.Loaded.the-variants.{Held, Unsound}
+use Rattle.state.specs.Words.{judged, loaded, ifSound}
 use Rattle.room.specs.declared.Record.{Record}
 use Rattle.room.specs.Room.{needed}
 use Rattle.bank.specs.Bank.{bankRefusal, viewShows, bankShows}
@@ -37,10 +39,12 @@ use Rattle.recording.specs.declared.Reading.the-variants.{Operation, Refused}
 use Rattle.recording.specs.Recording.{fieldCount, Several, got, bad, inFront, thenRead, numbersAt, numbersOf, operationAt, operationBytes, writingOf, writtenOperation}
 use Rattle.recording.specs.RecordedStep.{stepOfReading}
 use Rattle.brb.specs.Face.{stepResult}
-use Rattle.brb.specs.Recordings.{readInto, ofReading, readResult, recordedResult}
+use Rattle.batch.specs.Run.{readings}
+use Rattle.batch.specs.Batch.{Batch, batched, steps, doneAll, batchOf}
+use Rattle.brb.specs.Recordings.{readInto, ofReading, readResult, recordedResult, batchInNumbers, batchResult}
 use Rattle.demands.specs.First.{First, here, later, none, Accepted, AnswersBy, refuses, accepts}
 use Rattle.demands.proofs.Demand1.{first, step-number}
-use Rattle.face.specs.Lines.{Lines, stepLines, codeAt, valuesOf, restAt, readingLines, recordedLines, readLines, writeLines, bankLines, decodeLines}
+use Rattle.face.specs.Lines.{Lines, tooFew, batchLines, stepLines, codeAt, valuesOf, restAt, readingLines, recordedLines, readLines, writeLines, bankLines, decodeLines}
 
 -- ---- lines one after another
 
@@ -139,7 +143,7 @@ module _ {R : Lines → ℕ → Type 0} (by : InOrder R) (bytes : List ℕ) (at 
 
 -- ---- brb_step_recorded
 
-known-code : (code a b c d : ℕ) → code ≤ lastCode → unknownCode (operationOf code a b c d) ≡ false
+pub known-code : (code a b c d : ℕ) → code ≤ lastCode → unknownCode (operationOf code a b c d) ≡ false
 unfolding unknownCode operationOf
 known-code zero a b c d h = refl
 known-code (suc zero) a b c d h = refl
@@ -209,6 +213,37 @@ read-refused bytes at place = go (ltb (length place) 6) (operationAt bytes at)
     go true found h = (refl, refl)
     go false (Operation x next) h = absurd (h refl)
     go false (Refused number p) h = (refl, refl)
+
+-- ---- brb_batch
+
+-- Which number it answers.
+pub batch-answers : (words room bytes answers : List ℕ)
+    → First (batchLines words bytes answers) (batchResult words room bytes answers .answer .number)
+unfolding batchResult batchOf loaded judged
+batch-answers words room bytes answers = go (judge words) (ltb (length answers) (2 * length (readings bytes)))
+  where
+    go : Judged words → (t : Bool)
+        → First (tooFew words ∷ (7, not (sound (stateOf words))) ∷ (6, t) ∷ [])
+        (returned (ifSound (cond (leb stateNumbers (length words)) (cond (sound (stateOf words)) (Held (stateOf words)) Unsound) Unsound) (λ s. cond t (batched (Answer.Refused 6) words room answers) (doneAll (steps (readings bytes) words room) answers)) (λ n. batched (Answer.Refused n) words room answers) .answer) .number)
+    go (few h) t = rw (lt-ltb (length words) 9 h, lt-leb 9 (length words) h) here
+    go (unsound h e) t = rw (le-ltb (length words) 9 h, le-leb 9 (length words) h, e) (later here)
+    go (holds h e) true = rw (le-ltb (length words) 9 h, le-leb 9 (length words) h, e) (later (later here))
+    go (holds h e) false = rw (le-ltb (length words) 9 h, le-leb 9 (length words) h, e) (later (later (later none)))
+
+-- Where it refuses, the value is 0 and state, room and answers are as they were.
+pub batch-refused : (words room bytes answers : List ℕ) → batchResult words room bytes answers .answer .number ≢ 0
+    → batchResult words room bytes answers ≡ batched (record { number = batchResult words room bytes answers .answer .number; value = 0 }) words room answers
+unfolding batchResult batchOf
+batch-refused words room bytes answers = go (loaded words) (ltb (length answers) (2 * length (readings bytes)))
+  where
+    of : Loaded → Bool → Batch Answer
+    of l t = ifSound l (λ s. cond t (batched (Answer.Refused 6) words room answers) (doneAll (steps (readings bytes) words room) answers)) (λ n. batched (Answer.Refused n) words room answers)
+
+    go : (l : Loaded) (t : Bool) → batchInNumbers (of l t) .answer .number ≢ 0
+        → batchInNumbers (of l t) ≡ batched (record { number = batchInNumbers (of l t) .answer .number; value = 0 }) words room answers
+    go (Held s) true h = refl
+    go (Held s) false h = absurd (h refl)
+    go Unsound t h = refl
 
 -- ---- brb_recording_write
 

@@ -36,7 +36,7 @@ use Rattle.history.proofs.Sound.{sound-kept, sound-run}
 use Rattle.face.specs.Calls.{Lent, stepCall, recordedCall, left, calls, Position, recordedCalls, callsThrough, operationsAt, timed, holding, withNext, recordsIn}
 
 module _ (words : List ℕ) (enough : stateNumbers ≤ length words) where
-  call-left : (m : Machine) (n : Numbers) → sound (m .state) ≡ true → left (stepCall (holding words m) n) ≡ holding words (stepped m (timed n))
+  pub call-left : (m : Machine) (n : Numbers) → sound (m .state) ≡ true → left (stepCall (holding words m) n) ≡ holding words (stepped m (timed n))
   unfolding stepResult lentStep stepped
   call-left m n h = rw (loaded-stored (m .state) words enough h, stored-again (m .state) _ words)
 

@@ -1,6 +1,10 @@
 -- Sequences of calls on one lent memory, as a host makes them, and the sequence of operations that they stand for.
 use Prim.Native.Nat.{ℕ, zero, suc}
+use mathlib.Core.Bool.{cond}
 use mathlib.Core.List.{List, [], _∷_}
+use lib.Dec.{leb}
+use lib.ListN.{length}
+use Rattle.bits.specs.Bits.{oneOf}
 use Rattle.answer.specs.declared.Returned.{Returned}
 use Rattle.state.specs.Parts.{stateOf}
 use Rattle.state.specs.Words.{stored}
@@ -52,6 +56,33 @@ recordedCalls x (p ∷ list) = recordedCalls (left (recordedCall (p .bytes) x (p
 unfoldable pub callsThrough : ℕ → List ℕ → Lent → ℕ → Lent
 callsThrough zero bytes x at = x
 callsThrough (suc k) bytes x at = callsThrough k bytes (left (recordedCall bytes x at)) (recordedCall bytes x at .answer .next)
+
+-- What calls of it answered, each as its number and its value, and the lent memory after the last.
+pub record Called : Type 0 where
+  pub answers : List Returned
+  pub lent : Lent
+
+-- No call.
+abbrev pub noCall : Lent → Called
+noCall x = record { answers = []; lent = x }
+
+-- A call's answer, in front of those of the calls after it.
+abbrev pub calledFirst : BrbRecorded → Called → Called
+calledFirst r rest = record { answers = record { number = r .number; value = r .value } ∷ rest .answers; lent = rest .lent }
+
+-- The calls of it along a run, at most so many, as a host makes them: each at the position that the call before answered, none at
+-- the end of the bytes, and none behind an answer 7, 1 or 2.
+unfoldable pub callsAlong : ℕ → List ℕ → Lent → ℕ → Called
+callsAlong zero bytes x at = noCall x
+callsAlong (suc k) bytes x at =
+    let r = recordedCall bytes x at in
+    let rest = callsAlong k bytes (left r) (r .answer .next) in
+    cond (leb (length bytes) at) (noCall x) (calledFirst (r .answer) (cond (oneOf (7 ∷ 1 ∷ 2 ∷ []) (r .answer .number)) (noCall (left r)) rest))
+
+-- Answers as numbers, two each.
+unfoldable pub inPairs : List Returned → List ℕ
+inPairs [] = []
+inPairs (r ∷ list) = r .number ∷ r .value ∷ inPairs list
 
 -- What was read, in front of some operations: nothing where reading was refused.
 abbrev pub withRead : Reading → List Numbers → List Numbers

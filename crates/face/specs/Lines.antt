@@ -1,6 +1,6 @@
 -- By which lines each exported function refuses, in their order: document 01, "Refusal numbers, in order of checking", and for the bank
 -- view "Access outcomes", last paragraph.
-use Prim.Native.Nat.{ℕ, suc, _+_, _/_}
+use Prim.Native.Nat.{ℕ, suc, _+_, _*_, _/_}
 use mathlib.Core.Bool.{Bool, true, false, _&&_, not}
 use mathlib.Core.List.{List, [], _∷_, _++_}
 use lib.Dec.{eqb, ltb}
@@ -19,6 +19,7 @@ use Rattle.operation.specs.Operation.{lastCode, operationOf}
 use Rattle.operation.specs.Refusal.{table}
 use Rattle.recording.specs.declared.Numbers.{Numbers}
 use Rattle.recording.specs.Recording.{fieldCount, Several, got, bad, numbersAt, numbersOf, operationBytes}
+use Rattle.batch.specs.Run.{readings}
 
 -- Lines, each with its number and its condition.
 abbrev pub Lines : Type 0
@@ -94,6 +95,12 @@ readLines bytes at place = (6, ltb (length place) 6) ∷ readingLines bytes at
 -- `brb_recording_write`: 2 for a code past the last; 6 where the bytes have no room at the position.
 abbrev pub writeLines : Numbers → ℕ → List ℕ → Lines
 writeLines x at out = (2, ltb lastCode (x .code)) ∷ (6, ltb (length out) (at + length (operationBytes x))) ∷ []
+
+-- `brb_batch`: 7 for all of it; then 6 for a place of fewer than two numbers for each operation up to and including the one that
+-- ends the run.
+abbrev pub batchLines : List ℕ → List ℕ → List ℕ → Lines
+batchLines words bytes answers =
+    tooFew words ∷ (7, not (sound (stateOf words))) ∷ (6, ltb (length answers) (2 * length (readings bytes))) ∷ []
 
 -- ---- lines of the bank view and of decoding
 

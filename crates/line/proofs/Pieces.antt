@@ -22,7 +22,7 @@ use Rattle.recording.specs.declared.Reading.{Reading}
 use Rattle.recording.specs.declared.Reading.the-variants.{Operation, Refused}
 use Rattle.recording.specs.Recording.{operationAt}
 use Rattle.recording.specs.RecordedStep.{Recorded, stepOfReading, recordedStep, stopsReading}
-use Rattle.recording.proofs.Window.{movedReading, operation-moved, operation-window, operation-reach, refused-by}
+use Rattle.recording.proofs.Window.{movedReading, operation-moved, end-moved, operation-window, operation-reach, refused-by}
 use Rattle.line.specs.Line.{lineOf, replayFrom, replayOf}
 use Rattle.line.specs.Pieces.{Enough, Turns, brings, replays, stops, ends, turnCount}
 
@@ -74,19 +74,13 @@ goes-on s room bytes at h = go (judged s)
 
 -- ---- the replay, by the bytes that are left
 
-move-test : (length at d : ℕ) → leb length (d + at) ≡ leb (length - d) at
-move-test length at d =
-    ⊎-elim (λ (h : d + at < length). lt-leb length (d + at) h ∙ sym (lt-leb (length - d) at (omega arith)))
-    (λ (h : length ≤ d + at). le-leb length (d + at) h ∙ sym (le-leb (length - d) at (omega arith)))
-    (below-or-not (d + at) length)
-
 replay-moved : (k : ℕ) (s : State) (room bytes : List ℕ) (d at : ℕ) → replayFrom k s room bytes (d + at) ≡ replayFrom k s room (drop d bytes) at
 unfolding replayFrom
 replay-moved zero s room bytes d at = refl
 replay-moved (suc k) s room bytes d at =
     let r = recordedStep s room (drop d bytes) at in
     let rest = replay-moved k (r .result .state) (r .result .room) bytes d (r .next) in
-    rw (step-moved s room bytes d at, move-test (length bytes) at d, ← length-drop d bytes, rest)
+    rw (step-moved s room bytes d at, end-moved (length bytes) at d, ← length-drop d bytes, rest)
 
 -- A turn's line, and what comes behind it where reading goes on.
 abbrev headed : State → List ℕ → List ℕ → ℕ → List ℕ → List ℕ

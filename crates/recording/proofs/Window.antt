@@ -1,14 +1,15 @@
--- An operation at a place is decided by the bytes from there on, of which it uses at least one and at most sixty: what stands
+-- An operation at a place is decided by the bytes from there on, of which it uses at least two and at most sixty: what stands
 -- before only moves the places, and what stands past sixty bytes is not looked at.
-use Prim.Native.Nat.{ℕ, zero, suc, _+_, _*_, _≤_, _<_}
+use Prim.Native.Nat.{ℕ, zero, suc, _+_, _*_, _-_, _≤_, _<_}
 use native.Mathlib.Omega.{arith}
 use mathlib.Core.Path.{_≡_, refl, sym, ap, _∙_}
 use mathlib.Core.Bool.{Bool, true, false, cond}
-use mathlib.Core.Logic.{_⊎_, inl, inr}
+use mathlib.Core.Logic.{_⊎_, inl, inr, ⊎-elim}
 use mathlib.Core.List.{List, [], _∷_, _++_}
-use lib.Dec.{ltb}
+use lib.Dec.{ltb, leb}
 use lib.ListN.{length, drop, length-drop}
-use Rattle.bits.proofs.Cases.{never}
+use borrow.Author.Tests.{le-leb, lt-leb}
+use Rattle.bits.proofs.Cases.{never, below-or-not}
 use Rattle.number.specs.declared.Found.{Found}
 use Rattle.number.specs.declared.Found.the-variants.{Value, Malformed, Ended}
 use Rattle.number.specs.Number.{numberAt, foundRefusal}
@@ -67,6 +68,13 @@ code-moved bytes d at Ended = refl
 pub operation-moved : (bytes : List ℕ) (d at : ℕ) → operationAt bytes (d + at) ≡ movedReading d (operationAt (drop d bytes) at)
 unfolding operationAt
 operation-moved bytes d at = rw (number-moved bytes d at) (code-moved bytes d at (numberAt (drop d bytes) at))
+
+-- ... and the test for the end with it.
+pub end-moved : (length at d : ℕ) → leb length (d + at) ≡ leb (length - d) at
+end-moved length at d =
+    ⊎-elim (λ (h : d + at < length). lt-leb length (d + at) h ∙ sym (lt-leb (length - d) at (omega arith)))
+    (λ (h : length ≤ d + at). le-leb length (d + at) h ∙ sym (le-leb (length - d) at (omega arith)))
+    (below-or-not (d + at) length)
 
 -- ---- sixty bytes are enough
 
