@@ -58,4 +58,14 @@ extern "C" {
         length: usize,
         at: usize,
     ) -> Recorded;
+    pub fn brb_batch(
+        state: *mut u64,
+        state_numbers: usize,
+        room: *mut u64,
+        room_numbers: usize,
+        bytes: *const u8,
+        length: usize,
+        answers: *mut u64,
+        answer_numbers: usize,
+    ) -> Answer;
 }

@@ -14,11 +14,11 @@ const fn field(high: u32, low: u32) -> u64 {
 /// The first part of the version, which grows where a host has to change.
 pub const VERSION_MAJOR: u64 = 0;
 /// The second part of the version, which grows where something is added or an answer becomes another.
-pub const VERSION_MINOR: u64 = 2;
+pub const VERSION_MINOR: u64 = 3;
 /// The third part of the version.
 pub const VERSION_PATCH: u64 = 0;
 /// The version as text.
-pub const VERSION: &str = "0.2.0";
+pub const VERSION: &str = "0.3.0";
 
 /// Code of a reset.
 pub const CODE_RESET: u64 = 0;
@@ -313,3 +313,11 @@ pub const OPERATION_NUMBERS: usize = 6;
 pub const NUMBER_BYTES: usize = 10;
 /// How many bytes an operation of a recording has at most.
 pub const OPERATION_BYTES: usize = 60;
+
+/// How many numbers an answer of a [`batch`](crate::batch()) has: its number and its value.
+pub const ANSWER_NUMBERS: usize = 2;
+
+/// How many numbers are enough for the answers of any run of so many bytes.
+pub const fn batch_numbers(length: usize) -> usize {
+    length + 1
+}

@@ -4,8 +4,9 @@
 //! The library keeps nothing between calls. The caller lends it the state (nine numbers) and the room (three numbers a
 //! record, newest first); each call changes them in place or, where it refuses, leaves every number as it was.
 //! [`Recorder`] holds the two together, owned or borrowed; [`step`] and [`read`] take them from anywhere. Recordings are
-//! read and written with [`recording_read`] and [`recording_write`], and stepped along with [`step_recorded`].
-//! [`bank_inf`], [`bank_source`] and [`bank_target`] look at records without an operation. [`Inf`] takes BRBINF apart.
+//! read and written with [`recording_read`] and [`recording_write`], and stepped along with [`step_recorded`], one operation
+//! a call, or with [`batch()`], a whole run of them in one call. [`bank_inf`], [`bank_source`] and [`bank_target`] look at
+//! records without an operation. [`Inf`] takes BRBINF apart.
 //!
 //! Building needs the archive `libbrb.a`: the environment variable `BRB_ARCHIVE` names the folder that holds it, as an
 //! absolute path. The archive is for Linux on x86-64.
@@ -33,6 +34,7 @@
 
 mod answer;
 mod bank;
+mod batch;
 mod c;
 mod constants;
 mod count;
@@ -44,6 +46,7 @@ mod step;
 
 pub use answer::{Answer, Outcome, Recorded};
 pub use bank::{bank_inf, bank_source, bank_target};
+pub use batch::batch;
 pub use constants::*;
 pub use count::{count_decode, count_encode, decoded, Count};
 pub use inf::Inf;

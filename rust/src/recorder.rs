@@ -74,6 +74,21 @@ where
         crate::step_recorded(self.state.as_mut(), self.room.as_mut(), bytes, at)
     }
 
+    /// A run of recorded operations in one call, with the answers of each into lent numbers: [`batch`](crate::batch()).
+    ///
+    /// ```
+    /// use brb::{Outcome, Recorder};
+    ///
+    /// let bytes = [0, 0, 8, 0, 5, 0, 0];
+    /// let mut answers = [0; brb::batch_numbers(7)];
+    /// let mut recorder = Recorder::new();
+    /// assert_eq!(recorder.batch(&bytes, &mut answers).outcome(), Outcome::Done(2));
+    /// assert_eq!(answers[..2 * brb::ANSWER_NUMBERS], [0, 0, 0, 0x5008]);
+    /// ```
+    pub fn batch(&mut self, bytes: &[u8], answers: &mut [u64]) -> Answer {
+        crate::batch(self.state.as_mut(), self.room.as_mut(), bytes, answers)
+    }
+
     /// The state's numbers.
     pub fn state(&self) -> &[u64] {
         self.state.as_ref()
