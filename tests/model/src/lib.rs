@@ -3,8 +3,9 @@
 //! It is written from document 01, the requests of document 02 that have landed, `docs/DECISIONS.md` and, for what is lent,
 //! `include/brb.h` alone, so that the proved library has something independent to be compared with. [`Rules`] holds one
 //! method a rule, in the document's order; [`Document01`] is the document as it stands with these requests. [`Recordings`]
-//! does the same for recordings, and [`Lines`] and [`Notation`] for what the programs `list` and `pack` print and read, which
-//! `docs/MANUAL.md` says. A test that wants to know whether an error would be found overrides one method.
+//! does the same for recordings, [`Batches`] for a run of recorded operations in one call, and [`Lines`] and [`Notation`] for
+//! what the programs `list` and `pack` print and read, which `docs/MANUAL.md` says. A test that wants to know whether an error
+//! would be found overrides one method.
 //!
 //! ```
 //! use model::{Answer, Document01, Rules, State};
@@ -17,6 +18,7 @@
 mod access;
 mod answer;
 pub mod bank;
+pub mod batch;
 pub mod count;
 mod event;
 mod level;
@@ -28,10 +30,13 @@ pub mod recording;
 pub mod replay;
 pub mod room;
 mod rules;
+#[cfg(test)]
+mod s1;
 mod state;
 
 pub use access::{Access, Outcome};
 pub use answer::{Answer, Refusal};
+pub use batch::Batches;
 pub use event::{Cause, Event, Record, Shape};
 pub use level::Level;
 pub use lines::Lines;

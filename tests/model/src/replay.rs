@@ -35,9 +35,8 @@ fn print_line(text: &mut String, answer: Answer) -> fmt::Result {
 #[cfg(test)]
 mod tests {
     use super::*;
+    use crate::s1::{bytes, S1};
 
-    const S1: &str = "0 0 8 0 / 4 0 49 / 6 0 1 10 / 6 0 2 8 / 6 0 3 65536 / 3 0 1 0 128 4096 / 1 300 0 0 4100 4112 / \
-                      1 300 8 1 4112 4096 / 5 0 32 / 5 0 33 / 5 0 64 / 5 0 2";
     const S1_LINES: [&str; 4] = ["0000012c00000843", "0000400000000043", "0000000000001010", "undefined"];
 
     /// The lines of what is printed, each of which is ended.
@@ -45,12 +44,6 @@ mod tests {
         let text = text(bytes);
         assert!(text.is_empty() || text.ends_with('\n'));
         text.lines().map(String::from).collect()
-    }
-
-    /// The bytes of numbers in document 01's written form.
-    fn bytes(numbers: &str) -> Vec<u8> {
-        let numbers = numbers.split([' ', '/']).filter(|number| !number.is_empty());
-        numbers.flat_map(|number| Document01.number_bytes(number.parse().unwrap())).collect()
     }
 
     /// The marked case P12.
