@@ -1,11 +1,11 @@
-//! Document 02, request Two: a run of recorded operations in one call.
+//! Document 02, Two, and `docs/MANUAL.md`, "Batches": a run of recorded operations in one call.
 
 use crate::{Answer, Document01, Recordings, Refusal};
 
 /// The rules of a batch, one method a rule. A test that wants to know whether an error would be found overrides one.
 pub trait Batches: Recordings {
     /// A run on lent numbers, with a lent place for its answers: how many operations were answered, or what refuses all of
-    /// it. Both refusals are judged "before anything is done".
+    /// it. A refused batch does nothing at all.
     fn batch(&self, state: &mut [u64], room: &mut [u64], bytes: &[u8], answers: &mut [u64]) -> Result<usize, Refusal> {
         match self.batch_refusal(state, bytes, answers.len()) {
             Some(refusal) => Err(refusal),
@@ -13,7 +13,7 @@ pub trait Batches: Recordings {
         }
     }
 
-    /// "7 for the whole batch, then 6", with so many numbers for answers.
+    /// What refuses a batch that has so many numbers for its answers: the state is judged first, the answers behind it.
     fn batch_refusal(&self, state: &[u64], bytes: &[u8], answers: usize) -> Option<Refusal> {
         if self.sound(state).is_none() {
             Some(Refusal::NotSound)
@@ -24,7 +24,7 @@ pub trait Batches: Recordings {
         }
     }
 
-    /// 6: "shorter than twice the number of operations up to and including the one that ends the batch".
+    /// 6: some operation that is to have an answer has no two numbers for it.
     fn answers_too_short(&self, bytes: &[u8], answers: usize) -> bool {
         answers < 2 * self.answered_operations(bytes)
     }
@@ -58,14 +58,14 @@ pub trait Batches: Recordings {
         answered
     }
 
-    /// "Two numbers an operation (refusal or outcome, value)", from the first of the lent numbers on.
+    /// An answer has two places, from the first of the lent numbers on: its number, and behind it its value.
     fn put_answer(&self, answers: &mut [u64], operation: usize, answer: Answer) {
         answers[2 * operation] = answer.number();
         answers[2 * operation + 1] = answer.value();
     }
 
-    /// "A malformed number or unknown code ends the batch there." After every other refusal it goes on, "also where one in
-    /// the middle is refused": an operation's own 6 for the room too (`docs/MANUAL.md`, "Batches").
+    /// After 1 and 2 nobody knows where the next operation starts: such an answer is the batch's last. After every other
+    /// refusal the batch goes on, an operation's own 6 for the room too.
     fn ends_batch(&self, answer: Answer) -> bool {
         matches!(answer, Answer::Refused(Refusal::Malformed | Refusal::UnknownCode))
     }
