@@ -81,8 +81,9 @@ impl<R: Recordings> Engine for Modelled<R> {
     }
 }
 
-/// What was read or written as an answer: 0 with the number of bytes or the position, or the refusal with 0.
-fn numbered(outcome: Result<usize, Refusal>) -> (u64, u64) {
+/// What was read, written or done as an answer: 0 with the number of bytes, the position or the number of operations, or the
+/// refusal with 0.
+pub(crate) fn numbered(outcome: Result<usize, Refusal>) -> (u64, u64) {
     match outcome {
         Ok(value) => (0, value as u64),
         Err(refusal) => (refusal as u64, 0),
@@ -99,7 +100,12 @@ pub struct Lent {
 impl Lent {
     /// The first difference of what two engines left and answered, in words.
     pub fn difference(engines: [&dyn Engine; 2], lent: [&Lent; 2], answers: [(u64, u64); 2]) -> Option<String> {
-        let [left, right] = engines.map(|engine| engine.name());
+        Lent::difference_between(engines.map(|engine| engine.name()), lent, answers)
+    }
+
+    /// The same under two names.
+    pub fn difference_between(names: [&str; 2], lent: [&Lent; 2], answers: [(u64, u64); 2]) -> Option<String> {
+        let [left, right] = names;
         let say = |what: String, l: String, r: String| Some(format!("{what}: {left} {l}, {right} {r}"));
         if answers[0] != answers[1] {
             let [l, r] = answers.map(|(number, value)| format!("{number} {value:#x}"));

@@ -1,6 +1,7 @@
 //! Random operations, states and rooms. The generator looks at the state, so that most operations are accepted, and
 //! makes each mistake on purpose often enough.
 
+use crate::engine::Lent;
 use crate::shares::REASONS;
 use crate::{Call, Random, Single};
 use model::{BranchType, Platform, CONTROL_MASK, EXCEPTION_TYPES, FILTER_MASK, LAST_CODE};
@@ -79,6 +80,11 @@ impl<'r> Generator<'r> {
         let mut generator = Generator { random, flavour, queue: VecDeque::new() };
         generator.begin();
         generator
+    }
+
+    /// A source of operations for a state that is there already.
+    pub fn midway(random: &'r mut Random, flavour: Flavour) -> Generator<'r> {
+        Generator { random, flavour, queue: VecDeque::new() }
     }
 
     /// Most sequences begin with a reset, some with operations before it.
@@ -368,15 +374,28 @@ pub fn single(random: &mut Random) -> (Single, Option<usize>) {
     }
     let room = (0..single_room(random, &state)).map(|_| random.number()).collect();
     let flavour = random.one_of(&Flavour::ALL);
-    let mut generator = Generator { random, flavour, queue: VecDeque::new() };
-    let call = generator.call(&state);
+    let call = Generator::midway(random, flavour).call(&state);
     (Single { state, room, call }, reason)
+}
+
+/// A state and a room as a single call has them; nearly every state is sound.
+pub fn sound(random: &mut Random) -> Lent {
+    let state = sound_state(random);
+    let room = (0..single_room(random, &state)).map(|_| random.number()).collect();
+    Lent { state, room }
+}
+
+/// A state that is not sound, for the reason of this number (the order of [`crate::shares`]).
+pub fn unsound(random: &mut Random, reason: usize) -> Vec<u64> {
+    let mut state = sound_state(random);
+    spoil(random, &mut state, reason);
+    state
 }
 
 /// Nine sound numbers and up to three past them.
 fn sound_state(random: &mut Random) -> Vec<u64> {
     let flavour = random.one_of(&Flavour::ALL);
-    let mut generator = Generator { random, flavour, queue: VecDeque::new() };
+    let mut generator = Generator::midway(random, flavour);
     let platform = generator.platform();
     let (cr1, cr2) = (generator.control() & CONTROL_MASK, generator.control() & CONTROL_MASK);
     let fcr = generator.filter() & FILTER_MASK;

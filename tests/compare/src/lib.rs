@@ -1,9 +1,10 @@
 //! The proved library and the Rust model beside each other: every answer, every state number and every room number is
 //! compared, on sequences from a fresh state and on single calls with any state and room. [`recording`] does the same with
-//! recordings, and [`programs`] runs the programs of `target/bin`.
+//! recordings, [`batch`] with runs of recorded operations in one call, and [`programs`] runs the programs of `target/bin`.
 //!
 //! A case that disagrees is shrunk ([`shrink`]) and printed as numbers in document 01's written form.
 
+pub mod batch;
 pub mod call;
 pub mod demand3;
 pub mod engine;

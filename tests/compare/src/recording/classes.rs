@@ -63,16 +63,20 @@ impl Classes {
     }
 }
 
-fn place(numbers: &[u64], number: u64) -> usize {
+pub(crate) fn place(numbers: &[u64], number: u64) -> usize {
     let place = numbers.iter().position(|&listed| listed == number);
     place.unwrap_or_else(|| panic!("the answer {number} is not in {numbers:?}"))
 }
 
-fn named<'c>(group: &'c str, numbers: &'c [u64], met: &'c [u64]) -> impl Iterator<Item = (String, u64)> + 'c {
+pub(crate) fn named<'c>(
+    group: &'c str,
+    numbers: &'c [u64],
+    met: &'c [u64],
+) -> impl Iterator<Item = (String, u64)> + 'c {
     numbers.iter().zip(met).map(move |(number, &met)| (format!("{group}: {number}"), met))
 }
 
-fn rare(classes: impl Iterator<Item = (String, u64)>, least: u64) -> Vec<String> {
+pub(crate) fn rare(classes: impl Iterator<Item = (String, u64)>, least: u64) -> Vec<String> {
     classes.filter(|&(_, met)| met < least).map(|(name, met)| format!("{name}: {met}")).collect()
 }
 
@@ -101,7 +105,7 @@ impl fmt::Display for Classes {
 }
 
 /// A group's line: each answer's number and how often it was met.
-fn answers(f: &mut fmt::Formatter<'_>, group: &str, numbers: &[u64], met: &[u64]) -> fmt::Result {
+pub(crate) fn answers(f: &mut fmt::Formatter<'_>, group: &str, numbers: &[u64], met: &[u64]) -> fmt::Result {
     if met.iter().all(|&met| met == 0) {
         return Ok(());
     }

@@ -21,7 +21,7 @@ pub fn hex(bytes: &[u8]) -> String {
 }
 
 /// The same bytes with one made smaller.
-fn with_smaller_byte(bytes: &[u8]) -> impl Iterator<Item = Vec<u8>> + '_ {
+pub(crate) fn with_smaller_byte(bytes: &[u8]) -> impl Iterator<Item = Vec<u8>> + '_ {
     bytes.iter().enumerate().flat_map(move |(place, &byte)| {
         crate::shrink::smaller(u64::from(byte)).map(move |smaller| {
             let mut changed = bytes.to_vec();
