@@ -14,6 +14,9 @@
 #if BRB_VERSION_MAJOR != 0 || BRB_STATE_NUMBERS != BRB_STATE_UNKNOWN + 1 || BRB_LARGEST_ROOM != 192
 #error "brb.h: a constant is not what it was"
 #endif
+#if BRB_ANSWER_NUMBERS != 2 || BRB_BATCH_NUMBERS(0) != 1 || BRB_BATCH_NUMBERS(59) != 60
+#error "brb.h: a constant of batches is not what it was"
+#endif
 
 static void masks(void) {
     uint64_t all = BRB_P_NS | BRB_P_EEL2 | BRB_P_TGE | BRB_P_E2H | BRB_P_SBRBE | BRB_P_EL3_RECORDING | BRB_P_FGTEN;
@@ -47,11 +50,22 @@ static void answers(void) {
     check(strlen(BRB_VERSION) >= 5, "the version as text");
 }
 
+/* An operation has two bytes at least, but for a last one that is cut off. */
+static void batches(void) {
+    size_t length;
+    for (length = 0; length < 100; length++) {
+        size_t most = (length + 1) / 2;
+        check(BRB_BATCH_NUMBERS(length) >= BRB_ANSWER_NUMBERS * most, "numbers for the answers of any run");
+    }
+    check(BRB_BATCH_NUMBERS(BRB_OPERATION_BYTES) > BRB_ANSWER_NUMBERS, "numbers for the longest operation's answer");
+}
+
 int main(void) {
     struct brb_answer answer;
     masks();
     fields();
     answers();
+    batches();
     check(brb_count_encode(BRB_COUNT_LARGEST) == 0xCFF, "the largest count");
     check(brb_count_encode(BRB_COUNT_EXCEEDED) == BRB_CC_EXCEEDED, "a count that exceeded");
     answer = brb_count_decode(BRB_CC_EXCEEDED);

@@ -1,4 +1,4 @@
-/* A C host of the library: session S1, each refusal, rooms and states at their bounds, through include/brb.h.
+/* A C host of the library: session S1, each refusal, rooms and states at their bounds, and batches, through include/brb.h.
  *
  * Every lent area is allocated with exactly the numbers that are lent, so that valgrind sees a step past its end. */
 #include "brb.h"
@@ -179,12 +179,156 @@ static void counts(void) {
     check(answer.number == 4 && answer.value == 0, "no count has this encoding");
 }
 
+/* A run of bytes and the numbers for its answers, lent with their lengths. */
+struct run {
+    uint8_t *bytes;
+    uint64_t *answers;
+    size_t length, answer_numbers;
+};
+
+/* What stands in answers before a call. */
+#define BEFORE UINT64_C(0xB47CB47C)
+
+/* The first `length` of these bytes, in an area of their own. */
+static struct run lend_run(const uint8_t *bytes, size_t length, size_t answer_numbers) {
+    struct run r = {malloc(length ? length : 1), numbers(answer_numbers, BEFORE), length, answer_numbers};
+    if (!r.bytes) {
+        perror("c host");
+        exit(2);
+    }
+    if (length) memcpy(r.bytes, bytes, length);
+    return r;
+}
+
+static void take_back_run(struct run *r) {
+    free(r->bytes);
+    free(r->answers);
+}
+
+static struct brb_answer batch(struct lent *l, struct run *r) {
+    return brb_batch(l->state, l->state_numbers, l->room, l->room_numbers, r->bytes, r->length, r->answers,
+                     r->answer_numbers);
+}
+
+/* The numbers of an area, for a comparison after a call. */
+static uint64_t *copied(const uint64_t *area, size_t count) {
+    uint64_t *kept = numbers(count, 0);
+    if (count) memcpy(kept, area, count * sizeof *kept);
+    return kept;
+}
+
+/* A batch of these bytes that must be refused with this number, the value 0, and nothing changed. */
+static void batch_refuses(struct lent *l, const uint8_t *bytes, size_t length, size_t answer_numbers, uint64_t number,
+                          const char *what) {
+    struct run r = lend_run(bytes, length, answer_numbers);
+    uint64_t *state = copied(l->state, l->state_numbers), *room = copied(l->room, l->room_numbers);
+    struct brb_answer answer = batch(l, &r);
+    check(answer.number == number && answer.value == 0, what);
+    check(same(l->state, state, l->state_numbers) && same(l->room, room, l->room_numbers), what);
+    for (size_t i = 0; i < answer_numbers; i++) check(r.answers[i] == BEFORE, what);
+    free(state);
+    free(room);
+    take_back_run(&r);
+}
+
+/* A batch of these bytes from a fresh state, which must be what calls of brb_step_recorded are, one after another: state, room
+ * and answers, of which there is one number more than it needs. Answers how many operations there were. */
+static size_t batch_is_single_calls(const uint8_t *bytes, size_t length, size_t room_numbers, const char *what) {
+    struct lent one = lend(BRB_STATE_NUMBERS + 1, 0, room_numbers), each = lend(BRB_STATE_NUMBERS + 1, 0, room_numbers);
+    struct run r = lend_run(bytes, length, 0);
+    uint64_t *answers = numbers(BRB_BATCH_NUMBERS(length) + 1, BEFORE);
+    size_t count = 0;
+    for (size_t at = 0; at < length;) {
+        struct brb_recorded s = brb_step_recorded(each.state, each.state_numbers, each.room, room_numbers, r.bytes, length, at);
+        answers[BRB_ANSWER_NUMBERS * count] = s.number;
+        answers[BRB_ANSWER_NUMBERS * count++ + 1] = s.value;
+        at = s.number == BRB_REFUSED_MALFORMED || s.number == BRB_REFUSED_CODE ? length : s.next;
+    }
+    take_back_run(&r);
+    if (count) batch_refuses(&one, bytes, length, BRB_ANSWER_NUMBERS * count - 1, BRB_REFUSED_ROOM, what);
+    r = lend_run(bytes, length, BRB_ANSWER_NUMBERS * count + 1);
+    struct brb_answer answer = batch(&one, &r);
+    check(answer.number == BRB_DONE && answer.value == count, what);
+    check(same(r.answers, answers, r.answer_numbers), what);
+    check(same(one.state, each.state, one.state_numbers) && same(one.room, each.room, room_numbers), what);
+    take_back_run(&r);
+    free(answers);
+    take_back(&one);
+    take_back(&each);
+    return count;
+}
+
+/* Session S1 as a recording. */
+static const uint8_t s1[59] = {
+    0, 0, 8, 0, 4, 0, 49, 6, 0, 1, 10, 6, 0, 2, 8, 6, 0, 3, 0x80, 0x80, 4, 3, 0, 1, 0, 0x80, 1, 0x80, 0x20, 1, 0xAC, 2, 0, 0,
+    0x84, 0x20, 0x90, 0x20, 1, 0xAC, 2, 8, 1, 0x90, 0x20, 0x80, 0x20, 5, 0, 32, 5, 0, 33, 5, 0, 64, 5, 0, 2};
+
+static void batch_of_s1(void) {
+    static const size_t enough[] = {24, 25, BRB_BATCH_NUMBERS(sizeof s1)};
+    static const uint64_t reads[8] = {0, UINT64_C(0x0000012C00000843), 0, UINT64_C(0x0000400000000043), 0, 0x1010, 100, 0};
+    for (size_t i = 0; i < 3; i++) {
+        struct lent l = lend(BRB_STATE_NUMBERS, 0, BRB_ROOM_NUMBERS(64));
+        struct run r = lend_run(s1, sizeof s1, enough[i]);
+        struct brb_answer answer = batch(&l, &r);
+        check(answer.number == 0 && answer.value == 12, "S1 as a batch: twelve answers");
+        for (size_t n = 0; n < 16; n++) check(r.answers[n] == 0, "S1 as a batch: what is done");
+        check(same(r.answers + 16, reads, 8), "S1 as a batch: the four reads");
+        for (size_t n = 24; n < enough[i]; n++) check(r.answers[n] == BEFORE, "S1 as a batch: past the answers");
+        take_back_run(&r);
+        take_back(&l);
+    }
+    struct lent fresh = lend(BRB_STATE_NUMBERS, 0, BRB_ROOM_NUMBERS(64));
+    for (size_t few = 0; few < 24; few++) batch_refuses(&fresh, s1, sizeof s1, few, 6, "6: S1 with too few for its answers");
+    for (size_t few = 0; few < 24; few++) batch_refuses(&fresh, s1, 58, few, 6, "6: S1 cut off, with too few");
+    struct run cut = lend_run(s1, 58, 24);
+    struct brb_answer answer = batch(&fresh, &cut);
+    check(answer.number == 0 && answer.value == 12, "S1 cut off: twelve answers");
+    check(cut.answers[22] == 1 && cut.answers[23] == 0, "S1 cut off: the last is 1");
+    take_back_run(&cut);
+    take_back(&fresh);
+}
+
+static void batch_states(void) {
+    static const uint64_t unsound[BRB_STATE_NUMBERS] = {4, 9, 2, 0x80, 4, 4, 1, 1048577, 2};
+    for (size_t place = 0; place < BRB_STATE_NUMBERS; place++) {
+        struct lent l = lend(BRB_STATE_NUMBERS, 0, BRB_ROOM_NUMBERS(8)), cut = lend(place, 0, BRB_ROOM_NUMBERS(8));
+        l.state[place] = unsound[place];
+        batch_refuses(&l, s1, sizeof s1, 24, 7, "7: a batch on a state that is not sound");
+        batch_refuses(&l, s1, sizeof s1, 23, 7, "7 before 6");
+        batch_refuses(&l, s1, 0, 0, 7, "7: no bytes on a state that is not sound");
+        batch_refuses(&cut, s1, sizeof s1, 24, 7, "7: a batch on a state that is too short");
+        batch_refuses(&cut, s1, 0, 2, 7, "7: no bytes on a state that is too short");
+        take_back(&l);
+        take_back(&cut);
+    }
+}
+
+/* No bytes, refused operations in the middle, an unknown code, and S1 with each byte cut and changed. */
+static void batch_runs(void) {
+    static const uint8_t refused[] = {7, 0, 0, 0, 9, 0, 0, 0, 16, 0, 0, 0, 8, 0, 2, 0, 34, 0, 0, 0, 5, 0, 0};
+    static const uint8_t unknown[] = {0, 0, 8, 0, 8, 5, 0, 0};
+    check(batch_is_single_calls(s1, 0, BRB_ROOM_NUMBERS(8), "no bytes") == 0, "no bytes have no answer");
+    check(batch_is_single_calls(refused, sizeof refused, BRB_ROOM_NUMBERS(8), "3, 4, 6 and 5") == 6, "it goes on");
+    check(batch_is_single_calls(unknown, sizeof unknown, BRB_ROOM_NUMBERS(8), "an unknown code") == 2, "2 is the last");
+    check(batch_is_single_calls(s1, sizeof s1, 0, "no room") == 12, "each has its own 6");
+    for (size_t i = 0; i < sizeof s1; i++) {
+        uint8_t changed[sizeof s1];
+        memcpy(changed, s1, sizeof s1);
+        changed[i] ^= 0x80;
+        batch_is_single_calls(changed, sizeof changed, BRB_ROOM_NUMBERS(8), "S1 with a byte changed");
+        batch_is_single_calls(s1, i, BRB_ROOM_NUMBERS(8), "S1 cut off");
+    }
+}
+
 int main(void) {
     session_s1();
     refusals();
     rooms();
     states();
     counts();
+    batch_of_s1();
+    batch_states();
+    batch_runs();
     if (failed) {
         printf("c host: %u checks failed, %u passed\n", failed, passed);
         return EXIT_FAILURE;

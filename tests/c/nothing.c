@@ -70,11 +70,30 @@ static void recorded(void) {
     check(r.number == 6 && r.next == 4, "brb_step_recorded: no room");
 }
 
+/* A reset in a batch, with each set of what is not lent: bit 0 the state, 1 the room, 2 the bytes, 3 the answers. */
+static void batches(void) {
+    static const uint8_t reset[] = {0, 0, 8, 0};
+    for (unsigned missing = 0; missing < 16; missing++) {
+        uint64_t fresh[BRB_STATE_NUMBERS] = {0}, answers[BRB_ANSWER_NUMBERS] = {9, 9};
+        int no_state = missing & 1, no_room = missing >> 1 & 1, no_bytes = missing >> 2 & 1, no_answers = missing >> 3;
+        struct brb_answer answer =
+            brb_batch(no_state ? NULL : fresh, no_state ? 0 : BRB_STATE_NUMBERS, no_room ? NULL : room,
+                      no_room ? 0 : BRB_LARGEST_ROOM, no_bytes ? NULL : reset, no_bytes ? 0 : sizeof reset,
+                      no_answers ? NULL : answers, no_answers ? 0 : BRB_ANSWER_NUMBERS);
+        uint64_t number = no_state ? 7 : !no_bytes && no_answers ? 6 : 0;
+        int done = number == 0 && !no_bytes;
+        check(answer.number == number && answer.value == (uint64_t)done, "brb_batch: what it answers");
+        check(answers[0] == (done ? no_room ? 6 : 0 : 9) && answers[1] == (done ? 0 : 9), "brb_batch: its answers");
+        check(fresh[BRB_STATE_SIZE] == (done && !no_room ? 8 : 0), "brb_batch: the state");
+    }
+}
+
 int main(void) {
     steps();
     banks();
     recordings();
     recorded();
+    batches();
     printf("nothing: %u checks passed, %u failed\n", passed, failed);
     return failed != 0;
 }

@@ -24,6 +24,21 @@ static void empty() {
     check(brb_recording_read(b, no_bytes.size(), 0, n, none.size()).number == 6, "brb_recording_read");
     check(brb_recording_write(b, no_bytes.size(), 0, 7, 0, 0, 0, 0, 0).number == 6, "brb_recording_write");
     check(brb_step_recorded(n, none.size(), n, none.size(), b, no_bytes.size(), 0).number == 7, "brb_step_recorded");
+    check(brb_batch(n, none.size(), n, none.size(), b, no_bytes.size(), n, none.size()).number == 7, "brb_batch");
+}
+
+static void empty_run() {
+    std::vector<uint64_t> state(BRB_STATE_NUMBERS), none;
+    std::vector<uint8_t> no_bytes, reset(4);
+    reset[2] = 8;
+    uint64_t *s = state.data(), *n = none.data();
+    brb_answer answer = brb_batch(s, state.size(), n, none.size(), no_bytes.data(), no_bytes.size(), n, none.size());
+    check(answer.number == BRB_DONE && answer.value == 0, "brb_batch: no bytes, no room and no answers");
+    answer = brb_batch(s, state.size(), n, none.size(), reset.data(), reset.size(), n, none.size());
+    check(answer.number == BRB_REFUSED_ROOM && answer.value == 0, "brb_batch: no room and no answers");
+    std::vector<uint64_t> answers(BRB_BATCH_NUMBERS(reset.size()));
+    answer = brb_batch(s, state.size(), n, none.size(), reset.data(), reset.size(), answers.data(), answers.size());
+    check(answer.number == BRB_DONE && answer.value == 1 && answers[0] == BRB_REFUSED_ROOM, "brb_batch: no room");
 }
 
 static void in_use() {
@@ -36,6 +51,7 @@ static void in_use() {
 
 int main() {
     empty();
+    empty_run();
     in_use();
     std::cout << "vector: " << passed << " checks passed, " << failed << " failed\n";
     return failed != 0;
