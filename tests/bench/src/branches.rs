@@ -17,7 +17,7 @@ pub type Numbers = [u64; 6];
 type Step = fn(&mut [u64], &mut [u64], Numbers) -> (u64, u64);
 
 #[inline(never)]
-fn library(state: &mut [u64], room: &mut [u64], [code, cycles, fields @ ..]: Numbers) -> (u64, u64) {
+pub fn library(state: &mut [u64], room: &mut [u64], [code, cycles, fields @ ..]: Numbers) -> (u64, u64) {
     let answer = brb::step(state, room, brb::Operation { code, cycles, fields });
     (answer.number, answer.value)
 }
@@ -42,32 +42,55 @@ pub fn set_up(size: u64) -> [Numbers; 6] {
 
 /// A state and a room in which every branch becomes a record with a known count.
 #[derive(Clone, PartialEq, Eq)]
-struct Lent {
-    state: [u64; 9],
-    room: Vec<u64>,
+pub struct Lent {
+    pub state: [u64; 9],
+    pub room: Vec<u64>,
 }
 
 impl Lent {
-    fn set_up(size: u64, step: Step) -> Lent {
+    pub fn set_up(size: u64, step: Step) -> Lent {
         let mut lent = Lent { state: [0; 9], room: vec![0; 192] };
         for numbers in set_up(size) {
             assert_eq!(step(&mut lent.state, &mut lent.room, numbers), (0, 0));
         }
         lent
     }
+
+    /// Whether every record of the buffer is a full one.
+    pub fn is_recorded(&self, size: u64) -> bool {
+        self.room[..3 * size as usize].chunks(3).all(|record| record[0] & 3 == 3)
+    }
 }
+
+/// Random numbers of 44 bits, the same in every run.
+fn random_numbers() -> impl FnMut() -> u64 {
+    let mut seed = 1u64;
+    move || {
+        seed = seed.wrapping_mul(0x5851_F42D_4C95_7F2D).wrapping_add(0x1405_7B7E_F767_814F);
+        seed >> 20
+    }
+}
+
+/// The types of branches.
+const TYPES: [u64; 6] = [0, 1, 2, 3, 5, 8];
 
 /// Branches of all six types, with counts of every length, well and badly predicted.
 pub fn branches() -> Vec<Numbers> {
-    let mut seed = 1u64;
-    let mut random = || {
-        seed = seed.wrapping_mul(0x5851_F42D_4C95_7F2D).wrapping_add(0x1405_7B7E_F767_814F);
-        seed >> 20
-    };
+    let mut random = random_numbers();
     let branch = |_| {
-        let kind = [0, 1, 2, 3, 5, 8][random() as usize % 6];
+        let kind = TYPES[random() as usize % 6];
         let cycles = random() % (1 << (random() % 21));
         [1, cycles, kind, random() & 1, random(), random()]
+    };
+    (0..TURN).map(branch).collect()
+}
+
+/// The same with no number above 127, so that each has one byte in a recording.
+pub fn one_byte_branches() -> Vec<Numbers> {
+    let mut random = random_numbers();
+    let branch = |_| {
+        let kind = TYPES[random() as usize % 6];
+        [1, random() % 128, kind, random() & 1, random() % 128, random() % 128]
     };
     (0..TURN).map(branch).collect()
 }
@@ -106,7 +129,7 @@ fn measure(size: u64, branches: &[Numbers], options: &Options) -> (f64, f64, f64
     for _ in 0..options.rounds + 1 {
         rounds.push(round(&mut lent, branches, options.operations));
         assert!(lent[0] == lent[1], "the library and the model leave the same numbers");
-        assert!(lent[0].room[..3 * size as usize].chunks(3).all(|record| record[0] & 3 == 3), "all are recorded");
+        assert!(lent[0].is_recorded(size), "all are recorded");
     }
     // The first round warms up and does not count.
     let rounds = &rounds[1..];

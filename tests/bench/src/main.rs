@@ -1,25 +1,30 @@
 //! The proved library beside the Rust model, which does the same checks on the same lent numbers and moves its records the
-//! same way: the time of a recorded branch by single calls, and that of a replay.
+//! same way: the time of a recorded branch by single calls and in batches, and that of a replay.
 
+mod batch;
 mod branches;
 mod replay;
 
 use std::process::ExitCode;
 
 const USAGE: &str = "\
-Times the proved library beside the Rust model: recorded branches by single calls,
-and the replay program, if it is built, on a file of 1000000 operations.
+Times the proved library beside the Rust model: recorded branches by single calls
+and in batches, and the replay program, if it is built, on a file of 1000000
+operations.
 
-usage: bench [--operations N] [--rounds N] [--quick] [--replay]
+usage: bench [--operations N] [--rounds N] [--quick] [--batch | --replay]
 
   --operations N   branches a round (default 1000000)
   --rounds N       rounds, of which the medians count (default 15)
-  --quick          200000 branches, 5 rounds
+  --quick          200000 branches, 10000 in batches, 5 rounds
+  --batch          the batches alone
   --replay         the replay alone
   --help           this text
 
 A line a buffer size: nanoseconds an operation of both, and their ratio. Then the
-replay's milliseconds, their ratio, and the program's peak memory.";
+batches: nanoseconds an operation of brb_batch, of as many calls of
+brb_step_recorded and of brb_step, and of the model's batch, and brb_batch's ratio
+to each. Then the replay's milliseconds, their ratio, and the program's peak memory.";
 
 fn median(times: impl Iterator<Item = f64>) -> f64 {
     let mut times: Vec<f64> = times.collect();
@@ -27,24 +32,38 @@ fn median(times: impl Iterator<Item = f64>) -> f64 {
     times[times.len() / 2]
 }
 
+/// What is timed.
+#[derive(Clone, Copy, PartialEq, Eq)]
+enum Part {
+    All,
+    Batches,
+    Replay,
+}
+
 struct Options {
     operations: usize,
+    /// As many, in batches.
+    in_batches: usize,
     rounds: usize,
-    branches: bool,
+    part: Part,
 }
 
 /// The options, or none where help is asked for.
 fn options(mut arguments: impl Iterator<Item = String>) -> Result<Option<Options>, String> {
-    let mut options = Options { operations: 1_000_000, rounds: 15, branches: true };
+    let mut options = Options { operations: 1_000_000, in_batches: 1_000_000, rounds: 15, part: Part::All };
     while let Some(argument) = arguments.next() {
         let place = match argument.as_str() {
             "--help" | "-h" => return Ok(None),
             "--quick" => {
-                options = Options { operations: 200_000, rounds: 5, ..options };
+                options = Options { operations: 200_000, in_batches: 10_000, rounds: 5, ..options };
+                continue;
+            }
+            "--batch" => {
+                options.part = Part::Batches;
                 continue;
             }
             "--replay" => {
-                options.branches = false;
+                options.part = Part::Replay;
                 continue;
             }
             "--operations" => &mut options.operations,
@@ -54,13 +73,22 @@ fn options(mut arguments: impl Iterator<Item = String>) -> Result<Option<Options
         let number = arguments.next().ok_or(format!("{argument} needs a number"))?;
         let number: usize = number.parse().map_err(|_| format!("{argument} {number}: not a number"))?;
         *place = number.max(1);
+        if argument == "--operations" {
+            options.in_batches = options.operations;
+        }
     }
     Ok(Some(options))
 }
 
 fn report(options: &Options) -> ExitCode {
-    if options.branches {
+    if options.part == Part::All {
         branches::report(options);
+    }
+    if options.part != Part::Replay {
+        batch::report(options);
+    }
+    if options.part == Part::Batches {
+        return ExitCode::SUCCESS;
     }
     match replay::report(options) {
         Ok(()) => ExitCode::SUCCESS,
