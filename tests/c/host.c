@@ -232,10 +232,11 @@ static void batch_refuses(struct lent *l, const uint8_t *bytes, size_t length, s
 }
 
 /* A batch of these bytes from a fresh state, which must be what calls of brb_step_recorded are, one after another: state, room
- * and answers, of which there is one number more than it needs. Answers how many operations there were. */
+ * and answers, with a number past those of each. Answers how many operations there were. */
 static size_t batch_is_single_calls(const uint8_t *bytes, size_t length, size_t room_numbers, const char *what) {
     struct lent one = lend(BRB_STATE_NUMBERS + 1, 0, room_numbers), each = lend(BRB_STATE_NUMBERS + 1, 0, room_numbers);
     struct run r = lend_run(bytes, length, 0);
+    one.state[BRB_STATE_NUMBERS] = each.state[BRB_STATE_NUMBERS] = 5;
     uint64_t *answers = numbers(BRB_BATCH_NUMBERS(length) + 1, BEFORE);
     size_t count = 0;
     for (size_t at = 0; at < length;) {

@@ -6,6 +6,9 @@ use crate::Case;
 use model::{Batches, Document01};
 use std::fmt;
 
+/// How many numbers stand behind those that are lent for answers, to see whether they are written.
+const BEHIND: usize = 2;
+
 /// A run of recorded operations in one call, on any state and room.
 #[derive(Clone, Debug, PartialEq, Eq)]
 pub struct Batch {
@@ -23,9 +26,10 @@ impl Batch {
         Lent { state: self.state.clone(), room: self.room.clone() }
     }
 
-    /// The answers before the call: no two of them are alike, and none is a number or a value that is likely to be answered.
-    pub fn lent_answers(&self) -> Vec<u64> {
-        (0..self.answers as u64).map(|number| 0xA5_3E50_0000 + number).collect()
+    /// The answers before the call, and some numbers behind them that are not lent: no two of them are alike, and none is a
+    /// number or a value that is likely to be answered.
+    pub fn answers_before(&self) -> Vec<u64> {
+        (0..(self.answers + BEHIND) as u64).map(|number| 0xA5_3E50_0000 + number).collect()
     }
 
     /// What both engines answer, and what the single calls of the first make of the run; or how something disagrees: the
@@ -43,8 +47,8 @@ impl Batch {
     }
 
     fn left_by(&self, engine: &dyn Batching) -> Left {
-        let (mut lent, mut answers) = (self.lent(), self.lent_answers());
-        let answer = engine.batch(&mut lent.state, &mut lent.room, &self.bytes, &mut answers);
+        let (mut lent, mut answers) = (self.lent(), self.answers_before());
+        let answer = engine.batch(&mut lent.state, &mut lent.room, &self.bytes, &mut answers[..self.answers]);
         Left { answer, lent, answers }
     }
 
@@ -52,12 +56,13 @@ impl Batch {
     fn left_by_parts(&self, engine: &dyn Batching, singles: &Singles) -> Left {
         let (operations, byte) = singles.part(self.first_part, self.bytes.len());
         let (first, second) = self.bytes.split_at(byte);
-        let (mut lent, mut answers) = (self.lent(), self.lent_answers());
-        let one = engine.batch(&mut lent.state, &mut lent.room, first, &mut answers);
+        let (mut lent, mut answers) = (self.lent(), self.answers_before());
+        let lent_answers = &mut answers[..self.answers];
+        let one = engine.batch(&mut lent.state, &mut lent.room, first, lent_answers);
         if one != (0, operations as u64) {
             return Left { answer: one, lent, answers };
         }
-        let other = engine.batch(&mut lent.state, &mut lent.room, second, &mut answers[2 * operations..]);
+        let other = engine.batch(&mut lent.state, &mut lent.room, second, &mut lent_answers[2 * operations..]);
         Left { answer: (other.0, one.1 + other.1), lent, answers }
     }
 

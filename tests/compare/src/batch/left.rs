@@ -1,6 +1,6 @@
 use crate::engine::Lent;
 
-/// What a batch answered, and what it left of all that was lent to it.
+/// What a batch answered, and what it left of all that was lent to it, and of the numbers behind the answers.
 #[derive(Clone, Debug, PartialEq, Eq)]
 pub struct Left {
     pub answer: (u64, u64),

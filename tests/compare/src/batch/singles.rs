@@ -41,7 +41,7 @@ impl Singles {
             true if batch.answers < 2 * self.answers.len() => 6,
             true => 0,
         };
-        let mut answers = batch.lent_answers();
+        let mut answers = batch.answers_before();
         if refusal != 0 {
             return Left { answer: (refusal, 0), lent: batch.lent(), answers };
         }
