@@ -8,7 +8,8 @@ use crate::{DONE, REFUSED_CODE, REFUSED_MALFORMED, REFUSED_STATE, TRAP2, TRAP3, 
 pub struct Answer {
     /// 0 where the operation is done, 100 and above where its access is not performed, 1 to 7 where it is refused.
     pub number: u64,
-    /// What a read read; 0 for every other operation and every other number.
+    /// What a read read; 0 for every other operation and every other number. A function that is no single operation says
+    /// itself what it answers here.
     pub value: u64,
 }
 
