@@ -1,14 +1,15 @@
--- Closed: each number is answered for some input, by the step and by the recorded step.
+-- Closed: each number is answered for some input, by the step, by the recorded step and by a batch.
 use Prim.Native.Nat.{ℕ}
 use mathlib.Core.Path.{_≡_, refl}
 use mathlib.Core.List.{List, [], _∷_}
 use lib.ListN.{replicate}
+use Rattle.answer.specs.declared.Returned.{Returned}
 use Rattle.number.specs.Number.{numberIn, numberAt}
 use Rattle.state.specs.Sound.{unavailable, sound}
 use Rattle.state.specs.Words.{loaded, judged, stored}
-use Rattle.room.specs.Room.{cleared, roomAfter}
+use Rattle.room.specs.Room.{records, cleared, roomAfter}
 use Rattle.region.specs.Region.{enabled, prohibited}
-use Rattle.access.specs.Access.{nBit, trapped2, outcome, readOutcome, writeOutcome, registerWritten}
+use Rattle.access.specs.Access.{nBit, trapped2, outcome, readOutcome, writeOutcome, registerWritten, registerValue}
 use Rattle.operation.specs.Operation.{operationOf}
 use Rattle.operation.specs.Refusal.{unknownCode, notReset, outsideList, wrongLevel, roomTooShort, refusalOf}
 use Rattle.operation.specs.Changed.{changed}
@@ -17,7 +18,9 @@ use Rattle.recorder.specs.Step.{answerOf, accepted, stepOf}
 use Rattle.recorder.specs.Lent.{lentStep}
 use Rattle.recording.specs.Recording.{fieldCount, numbersAt, operationAt}
 use Rattle.brb.specs.Face.{stepResult}
-use Rattle.brb.specs.Recordings.{recordedResult}
+use Rattle.batch.specs.Run.{readFrom, readings}
+use Rattle.batch.specs.Batch.{Batch, batched, steps, inNumbers, batchOf}
+use Rattle.brb.specs.Recordings.{recordedResult, batchResult}
 
 -- The nine numbers of a state with a level, size 8 and a P.
 abbrev words : ℕ → ℕ → List ℕ
@@ -54,3 +57,15 @@ pub each-recorded : recorded [] [] ∷ recorded fresh [] ∷ recorded fresh (8 �
     ≡ 7 ∷ 1 ∷ 2 ∷ 1 ∷ 3 ∷ []
 unfolding numberIn numberAt loaded judged stored unavailable sound operationOf unknownCode notReset outsideList wrongLevel roomTooShort refusalOf changed stepOf fieldCount numbersAt operationAt recordedResult
 each-recorded = refl
+
+-- A run of a BRB IALL before a reset, a reset, a read of BRBIDR0_EL1 and a code 8, which ends it before its last byte: 3 is answered and the
+-- batch goes on, and 2 is its last answer. Nine numbers have room for the eight; seven have not, and then nothing is changed; nor where there
+-- is no state.
+abbrev batch : List ℕ → ℕ → Batch Returned
+batch state size = batchResult state (replicate 24 5) (7 ∷ 0 ∷ 0 ∷ 0 ∷ 8 ∷ 0 ∷ 5 ∷ 0 ∷ 0 ∷ 8 ∷ 0 ∷ []) (replicate size 9)
+
+pub closed-batch : (batch fresh 9 ≡ batched (record { number = 0; value = 4 }) (words 3 0) (replicate 24 0) (3 ∷ 0 ∷ 0 ∷ 0 ∷ 0 ∷ 0x5008 ∷ 2 ∷ 0 ∷ 9 ∷ []))
+    × (batch fresh 7 ≡ batched (record { number = 6; value = 0 }) fresh (replicate 24 5) (replicate 7 9))
+    × (batch [] 9 ≡ batched (record { number = 7; value = 0 }) [] (replicate 24 5) (replicate 9 9))
+unfolding numberIn numberAt loaded judged stored unavailable sound cleared roomAfter records enabled prohibited nBit trapped2 outcome readOutcome registerValue operationOf unknownCode notReset outsideList wrongLevel roomTooShort refusalOf changed occasion passed effectOf answerOf accepted stepOf lentStep fieldCount numbersAt operationAt readFrom readings steps inNumbers batchOf batchResult
+closed-batch = (refl, refl, refl)
