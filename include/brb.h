@@ -28,7 +28,7 @@
  *     3    refused: no reset yet (size 0), and the code is not 0
  *     4    refused: size, flag, type, level, register, P or count encoding outside its list
  *     5    refused: the level does not permit the operation
- *     6    refused: the room is too short
+ *     6    refused: the room is too short (or what else a function writes to, as it says)
  *     7    refused: the state is not sound, or its memory is too short to hold it
  * Refusals are checked in the order 7, 2, 3, 4, 5, 6, and have the value 0. A refused operation's cycles do not count.
  *
