@@ -61,18 +61,19 @@ after-more v p l b (Value n next) g h w =
 after-more v p l b Malformed g h w = refl
 after-more v p l b Ended g h w = refl
 
--- The reader's invariant: at place i of the bytes s, k + 1 bytes are still allowed, and what the groups passed make of
--- what they read as is the whole
-pub record Passed (whole : Found) (s : List ℕ) (value place i : ℕ) : Type 0 where
+-- The reader's invariant: at place i of the bytes s, with the tenth byte k places further, k + 1 bytes are still allowed, and
+-- what the groups passed make of what they read as is the whole
+pub record Passed (whole : Found) (s : List ℕ) (tenth value place i : ℕ) : Type 0 where
   pub k : ℕ
+  pub far : i + k ≡ tenth
   pub room : place * 128 ^ k ≡ 2 ^ 63
   pub low : value < place
   pub reads : whole ≡ after value place (2 * 128 ^ k) (numberIn (suc k) (drop i s) i)
 
 pub passed-first : (s : List ℕ) (at b : ℕ) → 128 ≤ b → b < 256
-    → Passed (continued b (numberIn 9 (drop at s) at)) s (b - 128) 128 at
+    → Passed (continued b (numberIn 9 (drop at s) at)) s (at + 8) (b - 128) 128 at
 passed-first s at b g h =
-    record { k = 8; room = refl; low = omega arith; reads = after-first b (numberIn 9 (drop at s) at) }
+    record { k = 8; far = refl; room = refl; low = omega arith; reads = after-first b (numberIn 9 (drop at s) at) }
 
 -- The next place
 shifted : (j p : ℕ) → p * 128 ^ suc j ≡ 2 ^ 63 → (p * 128 * 128 ^ j ≡ 2 ^ 63) × (p * 128 ≤ 2 ^ 63)
@@ -90,7 +91,7 @@ record Room (k p : ℕ) : Type 0 where
   room : p * 128 * 128 ^ j ≡ 2 ^ 63
   within : p * 128 ≤ 2 ^ 63
 
-grow : (k p : ℕ) → p * 128 ^ k ≡ 2 ^ 63 → 0 < p → p < 2 ^ 63 → Room k p
+grow : (k p : ℕ) → p * 128 ^ k ≡ 2 ^ 63 → 0 < p → 0 < k → Room k p
 grow zero p e z h = absurd (omega arith)
 grow (suc j) p e z h =
     let s = shifted j p e in
@@ -100,9 +101,9 @@ grow (suc j) p e z h =
     record { j = j; one-less = refl; limit = omega arith; some = o; small = omega arith; room = s .0; within = s .1 }
 
 -- At the tenth byte there is room for one bit
-tenth : (k p : ℕ) → p * 128 ^ k ≡ 2 ^ 63 → 2 ^ 63 ≤ p → (k ≡ 0) × (2 * 128 ^ k ≡ 2) × (p ≡ 2 ^ 63)
-tenth zero p e h = (refl, refl, omega arith)
-tenth (suc j) p e h = let s = shifted j p e in absurd (omega arith)
+tenth : (k p : ℕ) → p * 128 ^ k ≡ 2 ^ 63 → k ≡ 0 → (2 * 128 ^ k ≡ 2) × (p ≡ 2 ^ 63)
+tenth zero p e h = (refl, omega arith)
+tenth (suc j) p e h = absurd (omega arith)
 
 -- The rest, from a place past the end, and from one that holds a byte
 pub past-end : (k : ℕ) (s : List ℕ) (i : ℕ) → length s ≤ i → numberIn (suc k) (drop i s) i ≡ Ended
@@ -112,7 +113,7 @@ past-end k s i e = rw (drop-of-length-le s e)
 pub from-byte : (s : List ℕ) (i : ℕ) → i < length s → drop i s ≡ getD s i 0 ∷ drop (i + 1) s
 from-byte s i h = rw add-one (drop-cons s i 0 h)
 
-module _ {w : Found} {s : List ℕ} {v p i : ℕ} (h : Passed w s v p i) where
+module _ {w : Found} {s : List ℕ} {t v p i : ℕ} (h : Passed w s t v p i) where
   pub ended : length s ≤ i → Ended ≡ w
   ended e = sym (rw (past-end (h .k) s i e) at (h .reads))
 
@@ -127,60 +128,70 @@ module _ {w : Found} {s : List ℕ} {v p i : ℕ} (h : Passed w s v p i) where
   pub zeroed : i < length s → getD s i 0 ≡ 0 → Malformed ≡ w
   zeroed e z = sym (rw z at (last e (omega arith)))
 
+  room-left : i < t → Room (h .k) p
+  room-left l = grow (h .k) p (h .room) (omega (arith, h .low)) (omega (arith, h .far))
+
   -- Before the tenth byte: a whole group fits, ends the number or goes before the next
-  group-fits : p < 2 ^ 63 → (b : ℕ) → b < 128 → (p * 128 ≤ 2 ^ 63) × (v + p * b < p * 128)
+  group-fits : i < t → (b : ℕ) → b < 128 → (p * 128 ≤ 2 ^ 63) × (v + p * b < p * 128)
   group-fits l b g =
       let low = h .low in
-      let q = grow (h .k) p (h .room) (omega arith) l in
+      let q = room-left l in
       (q .within, omega (arith, mul-suc p b, mul-le-mul-left p g))
 
-  pub place-fits : p < 2 ^ 63 → Fits w64 (p * 128)
+  pub place-fits : i < t → Fits w64 (p * 128)
   place-fits l = omega (arith, group-fits l 0 (omega arith))
 
-  pub product-fits : p < 2 ^ 63 → {b : ℕ} → b < 128 → Fits w64 (p * b)
+  pub product-fits : i < t → {b : ℕ} → b < 128 → Fits w64 (p * b)
   product-fits l {b} g = omega (arith, group-fits l b g)
 
-  pub sum-fits : p < 2 ^ 63 → {b : ℕ} → b < 128 → Fits w64 (v + p * b)
+  pub sum-fits : i < t → {b : ℕ} → b < 128 → Fits w64 (v + p * b)
   sum-fits l {b} g = omega (arith, group-fits l b g)
 
-  pub valued : p < 2 ^ 63 → i < length s → 0 < getD s i 0 → getD s i 0 < 128 → Value (v + p * getD s i 0) (i + 1) ≡ w
+  pub valued : i < t → i < length s → 0 < getD s i 0 → getD s i 0 < 128 → Value (v + p * getD s i 0) (i + 1) ≡ w
   valued l e z g =
       let low = h .low in
-      let q = grow (h .k) p (h .room) (omega arith) l in
+      let q = room-left l in
       sym (last e g ∙ after-value v p (2 * 128 ^ h .k) (getD s i 0) (i + 1) z (omega arith))
 
-  pub turned : p < 2 ^ 63 → i < length s → 128 ≤ getD s i 0 → getD s i 0 < 256
-      → Passed w s (v + p * (getD s i 0 - 128)) (p * 128) (i + 1)
+  pub turned : i < t → i < length s → 128 ≤ getD s i 0 → getD s i 0 < 256
+      → Passed w s t (v + p * (getD s i 0 - 128)) (p * 128) (i + 1)
   turned l e g b =
       let low = h .low in
-      let q = grow (h .k) p (h .room) (omega arith) l in
+      let q = room-left l in
       let group = group-fits l (getD s i 0 - 128) (omega arith) in
       let rest : ℕ → Found = λ k. continued (getD s i 0) (numberIn k (drop (i + 1) s) (i + 1)) in
       let next = after-more v p (2 * 128 ^ q .j) (getD s i 0) (numberIn (suc (q .j)) (drop (i + 1) s) (i + 1)) g b (q .small) in
       record {
         k = q .j;
+        far = omega (arith, h .far, q .one-less);
         room = q .room;
         low = group .1;
         reads = more e g ∙ ap (λ (k : ℕ). after v p (2 * 128 ^ h .k) (rest k)) (q .one-less) ∙ rw (q .limit) next;
       }
 
   -- At the tenth byte: 1 and nothing else
-  pub tenth-place : 2 ^ 63 ≤ p → p ≡ 2 ^ 63
-  tenth-place g = tenth (h .k) p (h .room) g .2
+  none-left : t ≤ i → h .k ≡ 0
+  none-left g = omega (arith, h .far)
 
-  pub tenth-one : 2 ^ 63 ≤ p → i < length s → getD s i 0 ≡ 1 → Value (v + 2 ^ 63) (i + 1) ≡ w
+  there : t ≤ i → (2 * 128 ^ h .k ≡ 2) × (p ≡ 2 ^ 63)
+  there g = tenth (h .k) p (h .room) (none-left g)
+
+  pub tenth-place : t ≤ i → p ≡ 2 ^ 63
+  tenth-place g = there g .1
+
+  pub tenth-one : t ≤ i → i < length s → getD s i 0 ≡ 1 → Value (v + 2 ^ 63) (i + 1) ≡ w
   tenth-one g e z =
-      let t = tenth (h .k) p (h .room) g in
-      let sum : v + p * getD s i 0 ≡ v + 2 ^ 63 = rw (z, t .2) in
+      let at-tenth = there g in
+      let sum : v + p * getD s i 0 ≡ v + 2 ^ 63 = rw (z, at-tenth .1) in
       sym (last e (omega arith) ∙ after-value v p (2 * 128 ^ h .k) (getD s i 0) (i + 1) (omega arith) (omega arith) ∙ rw sum)
 
-  pub tenth-other : 2 ^ 63 ≤ p → i < length s → (getD s i 0 ≡ 1 → ⊥) → Malformed ≡ w
+  pub tenth-other : t ≤ i → i < length s → (getD s i 0 ≡ 1 → ⊥) → Malformed ≡ w
   unfolding numberIn
   tenth-other g e f =
-      let t = tenth (h .k) p (h .room) g in
+      let at-tenth = there g in
       ⊎-elim (λ z. zeroed e (omega arith))
       (λ z.
       ⊎-elim (λ l. sym (last e l ∙ after-large v p (2 * 128 ^ h .k) (getD s i 0) (i + 1) z (omega arith)))
-      (λ m. sym (rw (t .0) at (more e m)))
+      (λ m. sym (rw (none-left g) at (more e m)))
       (below-or-not (getD s i 0) 128))
       (below-or-not (getD s i 0) 1)

@@ -31,25 +31,31 @@ pub fn number_at(bytes: &[u8], at: usize) -> Found
     more_at(bytes, at + 1, first)
 }
 
+// Where a number's tenth byte stands whose second is at this place, or the end of so many bytes, whichever comes first.
+fn tenth_at(size: usize, at: usize) -> usize
+    requires { ⌜ at ≤ size ⌝ }
+    ensures { λ r. ⌜ (at ≤ r) × (r ≤ size) × (r ≤ at + 8) × (r < size → at + 8 ≤ r) ⌝ }
+{
+    if size - at < 8 { size } else { at + 8 }
+}
+
 // The number whose first byte, just before the place, says that more follow. The low digits come first: `value` is what those
 // so far come to, and the next counts by `place`. A last digit of 0 would be one too many. The tenth byte stands after the
 // loop, since of its digit only one bit is left below 2^64.
 fn more_at(bytes: &[u8], at: usize, first: u64) -> Found
-    requires { ⌜ (128 ≤ first) × (first < 256) ⌝ }
+    requires { ⌜ (128 ≤ first) × (first < 256) × (at ≤ length (now bytes)) ⌝ }
     ensures { λ r. ⌜ r ≡ continued first (numberIn 9 (drop at (now (bytes .entry))) at) ⌝ }
 {
+    let tenth = tenth_at(bytes.len(), at);
     let mut value = first - 128;
     let mut place: u64 = 128;
     let mut i = at;
-    while place < TENTH {
-        if bytes.len() <= i {
-            return Found::Ended;
-        }
+    while i < tenth {
         let byte = bytes[i] as u64;
-        if byte == 0 {
-            return Found::Malformed;
-        }
         if byte < 128 {
+            if byte == 0 {
+                return Found::Malformed;
+            }
             return Found::Value(value + place * byte, i + 1);
         }
         value = value + place * (byte - 128);

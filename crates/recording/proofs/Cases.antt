@@ -1,16 +1,14 @@
 -- What proofs on operations go by cases on.
-use Prim.Native.Nat.{ℕ, zero, suc, _≤_, _<_}
-use mathlib.Core.Path.{_≡_, refl, sym}
+use Prim.Native.Nat.{ℕ, zero, suc, _≤_}
+use mathlib.Core.Path.{_≡_, refl}
 use mathlib.Core.List.{[], _∷_}
 use mathlib.Core.Logic.{⊎-elim}
 use native.Mathlib.Omega.{arith}
 use denote.Enum.Declared.{tagOf}
-use lib.ListN.{List·getD-eq-default}
 use types.Run.{OneOf}
 use Rattle.number.proofs.Found.{the-type}
 use Rattle.number.specs.declared.Found.{Found}
 use Rattle.number.specs.declared.Found.the-variants.{Value, Malformed, Ended}
-use Rattle.operation.specs.Operation.{lastCode}
 use Rattle.recording.specs.Recording.{fieldCount}
 
 -- What was found is no number: the way that `let .. else` leaves
@@ -31,8 +29,3 @@ fields-at-most (suc (suc (suc (suc (suc zero))))) = (omega arith, λ e. omega ar
 fields-at-most (suc (suc (suc (suc (suc (suc zero)))))) = (omega arith, λ e. omega arith)
 fields-at-most (suc (suc (suc (suc (suc (suc (suc zero))))))) = (omega arith, λ e. omega arith)
 fields-at-most (suc (suc (suc (suc (suc (suc (suc (suc code)))))))) = (omega arith, λ e. omega arith)
-
--- Codes past the last have no field
-pub no-fields : (code : ℕ) → lastCode < code → 0 ≡ fieldCount code
-unfolding fieldCount
-no-fields code h = sym (List·getD-eq-default (2 ∷ 4 ∷ 4 ∷ 4 ∷ 1 ∷ 1 ∷ 2 ∷ 0 ∷ []) 0 {n = code} (omega arith))

@@ -1,12 +1,12 @@
 // Recordings, read and written (document 01, "Recordings"; docs/MANUAL.md, the same).
 ghost use mathlib.Core.Path.{_≡_};
+ghost use mathlib.Core.Bool.{cond};
 ghost use Prim.Native.Nat.{suc, _+_, _≤_};
 ghost use lib.ListN.{length, take};
 ghost use Rattle.number.specs.Number.{written};
 ghost use Rattle.recording.specs.Operations.{storedNumbers};
 ghost use Rattle.recording.specs.Recording.{fieldCount, numbersAt, withFields, operationAt, bytesOfAll, writtenOperation, writingOf, numbers};
 ghost use Rattle.recording.specs.RecordedStep.{recordedStep, stopsReading};
-ghost use Rattle.operation.specs.Operation.{lastCode};
 ghost use Rattle.recorder.specs.Result.{together};
 use answer::Answer;
 use number::Found;
@@ -56,59 +56,73 @@ const MALFORMED: u64 = 1;
 
 const UNKNOWN_CODE: u64 = 2;
 
-// How many fields each code has (document 01, "Operations").
-const FIELDS: [u64; 8] = [2, 4, 4, 4, 1, 1, 2, 0];
-
-// 0 for a code past the last, which has none.
+// How many fields each code has (document 01, "Operations"): 0 for a code past the last, which has none. A chain and no table,
+// since a table is laid out on the stack at every call.
 pub fn field_count(code: u64) -> u64
     ensures { λ r. ⌜ (r ≡ fieldCount code) × (r ≤ 4) ⌝ }
 {
-    if code <= LAST_CODE {
-        FIELDS[code as usize]
-    } else {
-        0
+    if code == 0 {
+        return 2;
     }
+    if code <= 3 {
+        return 4;
+    }
+    if code <= 5 {
+        return 1;
+    }
+    if code == 6 {
+        return 2;
+    }
+    0
 }
 
-// An operation that was read, and the place after it. What its code has no field for is handed in as 0.
-fn operation(code: u64, cycles: u64, a: u64, b: u64, c: u64, d: u64, next: usize) -> Reading
-    ensures { λ r. ⌜ r ≡ Reading.Operation (numbers code cycles a b c d) next ⌝ }
-{
-    Reading::Operation(Numbers::new(code, cycles, a, b, c, d), next)
+// Cycles and fields as they were read, 0 for the fields that the code does not have.
+struct Fields {
+    cycles: u64,
+    a: u64,
+    b: u64,
+    c: u64,
+    d: u64,
+    // The place after the last of them, or where the bad or missing number starts.
+    next: usize,
+    // Whether all of them were read.
+    good: bool,
 }
 
-// Cycles and fields after a code. A chain and no loop, since a replay spends its time here. No code has three fields, so what
-// has more than two has four.
-fn fields_at(bytes: &[u8], at: usize, code: u64) -> Reading
-    requires { ⌜ code ≤ lastCode ⌝ }
-    ensures { λ r. ⌜ r ≡ withFields code (numbersAt (suc (fieldCount code)) (now (bytes .entry)) at) ⌝ }
+// Cycles and fields after a code. A loop that reads a number at one place, so that `number_at` is compiled into it and a number
+// of one byte takes no call (docs/landings/03-short-path.md).
+fn fields_at(bytes: &[u8], at: usize, code: u64) -> Fields
+    ensures { λ r. ⌜ cond (r .good) (Reading.Operation (numbers code (r .cycles) (r .a) (r .b) (r .c) (r .d)) (r .next)) (Reading.Refused 1 (r .next)) ≡ withFields code (numbersAt (suc (fieldCount code)) (now (bytes .entry)) at) ⌝ }
 {
-    let count = field_count(code);
-    let Found::Value(cycles, first) = number_at(bytes, at) else {
-        return Reading::Refused(MALFORMED, at);
-    };
-    if count == 0 {
-        return operation(code, cycles, 0, 0, 0, 0, first);
+    let count = field_count(code) as usize + 1;
+    let mut list = [0u64; 5];
+    let mut next = at;
+    let mut i = 0;
+    while i < count {
+        let Found::Value(n, after) = number_at(bytes, next) else {
+            return Fields {
+                cycles: 0,
+                a: 0,
+                b: 0,
+                c: 0,
+                d: 0,
+                next,
+                good: false,
+            };
+        };
+        list[i] = n;
+        next = after;
+        i = i + 1;
     }
-    let Found::Value(a, second) = number_at(bytes, first) else {
-        return Reading::Refused(MALFORMED, first);
-    };
-    if count == 1 {
-        return operation(code, cycles, a, 0, 0, 0, second);
+    Fields {
+        cycles: list[0],
+        a: list[1],
+        b: list[2],
+        c: list[3],
+        d: list[4],
+        next,
+        good: true,
     }
-    let Found::Value(b, third) = number_at(bytes, second) else {
-        return Reading::Refused(MALFORMED, second);
-    };
-    if count == 2 {
-        return operation(code, cycles, a, b, 0, 0, third);
-    }
-    let Found::Value(c, fourth) = number_at(bytes, third) else {
-        return Reading::Refused(MALFORMED, third);
-    };
-    let Found::Value(d, next) = number_at(bytes, fourth) else {
-        return Reading::Refused(MALFORMED, fourth);
-    };
-    operation(code, cycles, a, b, c, d, next)
 }
 
 // The operation at a place: the code is read and judged before its cycles and fields are read.
@@ -121,7 +135,12 @@ pub fn operation_at(bytes: &[u8], at: usize) -> Reading
     if LAST_CODE < code {
         return Reading::Refused(UNKNOWN_CODE, at);
     }
-    fields_at(bytes, next, code)
+    let f = fields_at(bytes, next, code);
+    if !f.good {
+        return Reading::Refused(MALFORMED, f.next);
+    }
+    let x = Numbers::new(code, f.cycles, f.a, f.b, f.c, f.d);
+    Reading::Operation(x, f.next)
 }
 
 // How many bytes the first numbers of a list have: never more than ten each.

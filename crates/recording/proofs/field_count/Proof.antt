@@ -1,18 +1,48 @@
--- The number of fields, as defined: codes past the last have no line in the table.
-use mathlib.Core.Path.{refl}
-use borrow.Author.Needs.{needs}
+-- The number of fields, as defined: each answer is that of the codes that are left for it.
+use Prim.Native.Nat.{ℕ, zero, suc, _≤_, _<_}
+use mathlib.Core.Path.{_≡_, refl, sym, ap}
+use mathlib.Core.List.{[], _∷_}
+use mathlib.Core.Logic.{⊎-elim}
 use native.Mathlib.Omega.{arith}
+use lib.ListN.{List·getD-eq-default}
+use Rattle.bits.proofs.Cases.{below-or-not}
 use Rattle.recording.specs.Recording.{fieldCount}
-use Rattle.recording.proofs.Cases.{no-fields, fields-at-most}
 use Rattle.recording.proofs.field_count.Statement.{statement}
 use Rattle.recording.proofs.field_count.Tie as tie
+
+four : (code : ℕ) → 0 < code → code ≤ 3 → 4 ≡ fieldCount code
+unfolding fieldCount
+four zero h g = absurd (omega arith)
+four (suc zero) h g = refl
+four (suc (suc zero)) h g = refl
+four (suc (suc (suc zero))) h g = refl
+four (suc (suc (suc (suc code)))) h g = absurd (omega arith)
+
+one : (code : ℕ) → 3 < code → code ≤ 5 → 1 ≡ fieldCount code
+unfolding fieldCount
+one (suc (suc (suc (suc zero)))) h g = refl
+one (suc (suc (suc (suc (suc zero))))) h g = refl
+one (suc (suc (suc (suc (suc (suc code)))))) h g = absurd (omega arith)
+one zero h g = absurd (omega arith)
+one (suc zero) h g = absurd (omega arith)
+one (suc (suc zero)) h g = absurd (omega arith)
+one (suc (suc (suc zero))) h g = absurd (omega arith)
+
+-- Past the codes that have fields
+none : (code : ℕ) → 6 < code → 0 ≡ fieldCount code
+unfolding fieldCount
+none code h =
+    ⊎-elim (λ below. let seven : code ≡ 7 = omega arith in sym (ap fieldCount seven))
+    (λ past. sym (List·getD-eq-default (2 ∷ 4 ∷ 4 ∷ 4 ∷ 1 ∷ 1 ∷ 2 ∷ 0 ∷ []) 0 {n = code} past))
+    (below-or-not code 8)
 
 pub field-count-spec : {M : Type 1} → statement M
 unfolding fieldCount
 field-count-spec =
     tie.close
     (tie.spec
-    (λ c. search needs)
-    (λ c. search needs)
-    (λ c. (refl, fields-at-most (c .before .args .code) .0))
-    (λ c. (no-fields (c .before .args .code) (omega arith), omega arith)))
+    (λ c. (sym (ap fieldCount (c .if1 .taken)), omega arith))
+    (λ c. (four (c .before .before .args .code) (omega arith) (omega arith), omega arith))
+    (λ c. (one (c .before .before .before .args .code) (omega arith) (omega arith), omega arith))
+    (λ c. (sym (ap fieldCount (c .if4 .taken)), omega arith))
+    (λ c. (none (c .before .before .before .before .args .code) (omega arith), omega arith)))

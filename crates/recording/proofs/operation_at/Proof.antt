@@ -1,7 +1,7 @@
 -- Reading an operation, as defined: the code decides first.
 use native.Mathlib.Omega.{arith}
 use borrow.Author.Needs.{needs}
-use borrow.Author.Tests.{lt-ltb, le-ltb}
+use borrow.Author.Tests.{lt-ltb, le-ltb, not-true, not-false}
 use Rattle.operation.specs.Operation.{lastCode}
 use Rattle.recording.specs.Recording.{operationAt}
 use Rattle.recording.proofs.Cases.{no-value}
@@ -21,7 +21,13 @@ operation-at-spec =
     (λ c.
     let v = c .before .before .code .given in
     rw (← c .before .before .before .before .number-at .ensures, v .1, lt-ltb lastCode (v .0 .0) (omega arith)))
-    (λ c κs. omega arith)
+    (λ _ _. tt)
     (λ c.
-    let v = c .before .before .before .code .given in
-    rw (← c .before .before .before .before .before .number-at .ensures, v .1, le-ltb lastCode (v .0 .0) (omega arith), c .fields-at .ensures)))
+    let f = c .before .before in
+    let v = f .before .before .before .code .given in
+    rw (← f .before .before .before .before .before .number-at .ensures, v .1, le-ltb lastCode (v .0 .0) (omega arith), ← f .fields-at .ensures, not-true (f .fields-at .result .good) (c .if2 .taken)))
+    (λ _ _. tt)
+    (λ c.
+    let f = c .before .before .before in
+    let v = f .before .before .before .code .given in
+    rw (← f .before .before .before .before .before .number-at .ensures, v .1, le-ltb lastCode (v .0 .0) (omega arith), ← f .fields-at .ensures, not-false (f .fields-at .result .good) (c .before .if2 .left), c .new .ensures)))
