@@ -156,15 +156,11 @@ fn print_line(rounds: &[Times], answers: &str, [batch, others @ ..]: [usize; 4])
 
 /// Two lines a kind of branches and a buffer size.
 pub fn report(options: &Options) {
-    let kinds = [
-        ("counts of every length, addresses of 44 bits", branches::branches()),
-        ("no number above 127", branches::one_byte_branches()),
-    ];
     println!(
         "{} recorded branches a round in batches of {BATCH}, medians of {} rounds",
         options.in_batches, options.rounds
     );
-    for (kind, branches) in kinds {
+    for (kind, branches) in branches::kinds() {
         let runs: Vec<Run> = branches.chunks_exact(BATCH).map(Run::of).collect();
         for size in [8, 64] {
             let rounds = measure(size, &runs, options);

@@ -75,7 +75,7 @@ fn random_numbers() -> impl FnMut() -> u64 {
 const TYPES: [u64; 6] = [0, 1, 2, 3, 5, 8];
 
 /// Branches of all six types, with counts of every length, well and badly predicted.
-pub fn branches() -> Vec<Numbers> {
+fn branches() -> Vec<Numbers> {
     let mut random = random_numbers();
     let branch = |_| {
         let kind = TYPES[random() as usize % 6];
@@ -86,13 +86,29 @@ pub fn branches() -> Vec<Numbers> {
 }
 
 /// The same with no number above 127, so that each has one byte in a recording.
-pub fn one_byte_branches() -> Vec<Numbers> {
+fn one_byte_branches() -> Vec<Numbers> {
     let mut random = random_numbers();
     let branch = |_| {
         let kind = TYPES[random() as usize % 6];
         [1, random() % 128, kind, random() & 1, random() % 128, random() % 128]
     };
     (0..TURN).map(branch).collect()
+}
+
+/// Both, by the words that say what their numbers are.
+pub fn kinds() -> [(&'static str, Vec<Numbers>); 2] {
+    [("counts of every length, addresses of 44 bits", branches()), ("no number above 127", one_byte_branches())]
+}
+
+/// One of so many operations of a recording is a read.
+const READ_OF: usize = 16;
+
+/// The operations of a recording, without end: branches, over and over, and some reads of their records in a buffer of 64.
+pub fn with_reads(branches: &[Numbers]) -> impl Iterator<Item = Numbers> + '_ {
+    (0..).map(|place: usize| match place % READ_OF {
+        0 => [5, 1, 32 + (place / READ_OF % 96) as u64, 0, 0, 0],
+        _ => branches[place % branches.len()],
+    })
 }
 
 /// Nanoseconds an operation that these branches take.

@@ -1,30 +1,34 @@
 //! The proved library beside the Rust model, which does the same checks on the same lent numbers and moves its records the
-//! same way: the time of a recorded branch by single calls and in batches, and that of a replay.
+//! same way: the time of a recorded branch by single calls and in batches, and that of a replay. Reading alone is timed beside a
+//! reader in C.
 
 mod batch;
 mod branches;
+mod read;
 mod replay;
 
 use std::process::ExitCode;
 
 const USAGE: &str = "\
-Times the proved library beside the Rust model: recorded branches by single calls
-and in batches, and the replay program, if it is built, on a file of 1000000
-operations.
+Times the proved library: recorded branches by single calls and in batches, and the
+replay program, if it is built, on files of 1000000 operations, beside the Rust model;
+reading a recording's operations beside a reader in C.
 
-usage: bench [--operations N] [--rounds N] [--quick] [--batch | --replay]
+usage: bench [--operations N] [--rounds N] [--quick] [--batch | --read | --replay]
 
-  --operations N   branches a round (default 1000000)
+  --operations N   operations a round (default 1000000)
   --rounds N       rounds, of which the medians count (default 15)
-  --quick          200000 branches, 10000 in batches, 5 rounds
+  --quick          200000 operations, 10000 in batches, 5 rounds
   --batch          the batches alone
+  --read           the reading alone
   --replay         the replay alone
   --help           this text
 
 A line a buffer size: nanoseconds an operation of both, and their ratio. Then the
 batches: nanoseconds an operation of brb_batch, of as many calls of
 brb_step_recorded and of brb_step, and of the model's batch, and brb_batch's ratio
-to each. Then the replay's milliseconds, their ratio, and the program's peak memory.";
+to each. Then brb_recording_read's nanoseconds an operation and the C reader's. Then
+the replay's milliseconds and the model's, and the program's peak memory.";
 
 fn median(times: impl Iterator<Item = f64>) -> f64 {
     let mut times: Vec<f64> = times.collect();
@@ -37,6 +41,7 @@ fn median(times: impl Iterator<Item = f64>) -> f64 {
 enum Part {
     All,
     Batches,
+    Read,
     Replay,
 }
 
@@ -62,6 +67,10 @@ fn options(mut arguments: impl Iterator<Item = String>) -> Result<Option<Options
                 options.part = Part::Batches;
                 continue;
             }
+            "--read" => {
+                options.part = Part::Read;
+                continue;
+            }
             "--replay" => {
                 options.part = Part::Replay;
                 continue;
@@ -81,13 +90,17 @@ fn options(mut arguments: impl Iterator<Item = String>) -> Result<Option<Options
 }
 
 fn report(options: &Options) -> ExitCode {
+    let asked = |part: Part| options.part == Part::All || options.part == part;
     if options.part == Part::All {
         branches::report(options);
     }
-    if options.part != Part::Replay {
+    if asked(Part::Batches) {
         batch::report(options);
     }
-    if options.part == Part::Batches {
+    if asked(Part::Read) {
+        read::report(options);
+    }
+    if !asked(Part::Replay) {
         return ExitCode::SUCCESS;
     }
     match replay::report(options) {

@@ -1,7 +1,7 @@
 //! The time of the replay program on a file, start and end of the process included, beside the model's replay of the same
 //! file in this process, and the program's peak memory.
 
-use crate::branches::{branches, set_up};
+use crate::branches::{self, set_up, Numbers};
 use crate::{median, Options};
 use model::{replay, Document01, Recordings};
 use std::fs;
@@ -11,8 +11,6 @@ use std::time::{Duration, Instant};
 
 /// How many operations the timed recording has.
 const OPERATIONS: usize = 1_000_000;
-/// One of so many operations is a read.
-const READ_OF: usize = 16;
 /// How many bytes the recordings have on which memory is measured: what does not grow with them is the program's own.
 const LENGTHS: [usize; 2] = [1_000_000, 10_000_000];
 
@@ -24,21 +22,17 @@ struct Recording {
 }
 
 impl Recording {
-    /// Recorded branches and some reads of their records in a buffer of 64, until `enough` of operations and bytes.
-    fn made(name: &str, enough: impl Fn(usize, usize) -> bool) -> std::io::Result<Recording> {
-        let (branches, set_up) = (branches(), set_up(64));
+    /// What sets up a buffer of 64, then recorded branches and some reads of their records, until `enough` of operations and
+    /// bytes.
+    fn made(name: &str, branches: &[Numbers], enough: impl Fn(usize, usize) -> bool) -> std::io::Result<Recording> {
         let (mut bytes, mut operations, mut reads) = (Vec::new(), 0, 0);
-        while !enough(operations, bytes.len()) {
-            let numbers = match set_up.get(operations) {
-                Some(&numbers) => numbers,
-                None if operations % READ_OF == 0 => {
-                    reads += 1;
-                    [5, 1, 32 + (reads % 96) as u64, 0, 0, 0]
-                }
-                None => branches[operations % branches.len()],
-            };
+        for numbers in set_up(64).into_iter().chain(branches::with_reads(branches)) {
+            if enough(operations, bytes.len()) {
+                break;
+            }
             bytes.extend(Document01.operation_bytes(numbers).expect("a known code"));
             operations += 1;
+            reads += usize::from(numbers[0] == 5);
         }
         let file = std::env::temp_dir().join(format!("brb-bench-{}-{name}.recording", std::process::id()));
         fs::write(&file, &bytes)?;
@@ -90,8 +84,8 @@ fn peak_memory(mut child: Child) -> std::io::Result<Option<u64>> {
     Ok(peak)
 }
 
-fn report_time(path: &Path, rounds: usize) -> std::io::Result<()> {
-    let recording = Recording::made("time", |operations, _| operations == OPERATIONS)?;
+fn report_time(path: &Path, kind: &str, branches: &[Numbers], rounds: usize) -> std::io::Result<()> {
+    let recording = Recording::made("time", branches, |operations, _| operations == OPERATIONS)?;
     let printed = program(path, &recording, Stdio::piped()).output()?.stdout;
     assert!(
         printed == replay::text(&fs::read(&recording.file)?).as_bytes(),
@@ -103,17 +97,18 @@ fn report_time(path: &Path, rounds: usize) -> std::io::Result<()> {
     }
     let (program, model) = (median(times.iter().map(|time| time.0)), median(times.iter().map(|time| time.1)));
     let ratio = median(times.iter().map(|(program, model)| program / model));
-    println!("replay of {OPERATIONS} operations ({} bytes), medians of {rounds} rounds:", recording.bytes);
+    println!("replay of {OPERATIONS} operations ({} bytes), {kind}, medians of {rounds} rounds:", recording.bytes);
     println!("  program {:6.1} ms, model {:6.1} ms, ratio {ratio:.2}", program * 1e3, model * 1e3);
     Ok(())
 }
 
-fn report_memory(path: &Path) -> std::io::Result<()> {
+fn report_memory(path: &Path, branches: &[Numbers]) -> std::io::Result<()> {
+    println!("peak memory of a replay:");
     for length in LENGTHS {
-        let recording = Recording::made("memory", |_, bytes| bytes >= length)?;
+        let recording = Recording::made("memory", branches, |_, bytes| bytes >= length)?;
         match peak_memory(program(path, &recording, Stdio::null()).spawn()?)? {
-            Some(kilobytes) => println!("  peak memory on {} bytes: {kilobytes} kB", recording.bytes),
-            None => println!("  peak memory on {} bytes: it ended too soon to be seen", recording.bytes),
+            Some(kilobytes) => println!("  on {} bytes: {kilobytes} kB", recording.bytes),
+            None => println!("  on {} bytes: it ended too soon to be seen", recording.bytes),
         }
     }
     Ok(())
@@ -126,6 +121,9 @@ pub fn report(options: &Options) -> std::io::Result<()> {
         println!("replay: skipped, the program target/bin/replay is not built");
         return Ok(());
     }
-    report_time(&path, options.rounds)?;
-    report_memory(&path)
+    let kinds = branches::kinds();
+    for (kind, branches) in &kinds {
+        report_time(&path, kind, branches, options.rounds)?;
+    }
+    report_memory(&path, &kinds[0].1)
 }
