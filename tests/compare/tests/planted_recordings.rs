@@ -85,6 +85,20 @@ planted! {
             Document01.read_number(&ended, at)
         }
     })
+    ("128 is taken as a number of one byte", OneByte128 {
+        fn read_number(&self, bytes: &[u8], at: usize) -> Option<(u64, usize)> {
+            match bytes.get(at) {
+                Some(0x80) => Some((128, at + 1)),
+                _ => Document01.read_number(bytes, at),
+            }
+        }
+    })
+    ("the place after a number of one byte is one too far", ShortPlace {
+        fn read_number(&self, bytes: &[u8], at: usize) -> Option<(u64, usize)> {
+            let (number, next) = Document01.read_number(bytes, at)?;
+            Some((number, if number == 127 { at + 2 } else { next }))
+        }
+    })
     ("the high group comes first", HighGroupFirst {
         fn number_bytes(&self, number: u64) -> Vec<u8> {
             let mut bytes = Document01.number_bytes(number);
