@@ -17,7 +17,8 @@ pub enum Found {
 // What the tenth digit counts by: 2^63.
 const TENTH: u64 = 0x8000_0000_0000_0000;
 
-// The number at a place. Its first byte stands apart: only there can the last digit be 0.
+// The number at a place. Its first byte stands apart: only there can the last digit be 0, and a number below 128, as most are, is
+// that byte, without the general path (document 02, Three).
 pub fn number_at(bytes: &[u8], at: usize) -> Found
     ensures { λ r. ⌜ r ≡ numberAt (now (bytes .entry)) at ⌝ }
 {
@@ -41,7 +42,8 @@ fn tenth_at(size: usize, at: usize) -> usize
 
 // The number whose first byte, just before the place, says that more follow. The low digits come first: `value` is what those
 // so far come to, and the next counts by `place`. A last digit of 0 would be one too many. The tenth byte stands after the
-// loop, since of its digit only one bit is left below 2^64.
+// loop, since of its digit only one bit is left below 2^64. Where the loop ends is found first: the compiler then leaves it a loop,
+// and `number_at` small enough to be compiled into its callers (docs/landings/03-short-path.md).
 fn more_at(bytes: &[u8], at: usize, first: u64) -> Found
     requires { ⌜ (128 ≤ first) × (first < 256) × (at ≤ length (now bytes)) ⌝ }
     ensures { λ r. ⌜ r ≡ continued first (numberIn 9 (drop at (now (bytes .entry))) at) ⌝ }

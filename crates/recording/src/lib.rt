@@ -89,8 +89,8 @@ struct Fields {
     good: bool,
 }
 
-// Cycles and fields after a code. A loop that reads a number at one place, so that `number_at` is compiled into it and a number
-// of one byte takes no call (docs/landings/03-short-path.md).
+// Cycles and fields after a code. A loop, since `number_at` is compiled into the one place that reads a number in it: a number of
+// one byte takes no call (document 02, Three; docs/landings/03-short-path.md).
 fn fields_at(bytes: &[u8], at: usize, code: u64) -> Fields
     ensures { λ r. ⌜ cond (r .good) (Reading.Operation (numbers code (r .cycles) (r .a) (r .b) (r .c) (r .d)) (r .next)) (Reading.Refused 1 (r .next)) ≡ withFields code (numbersAt (suc (fieldCount code)) (now (bytes .entry)) at) ⌝ }
 {
