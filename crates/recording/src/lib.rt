@@ -76,13 +76,10 @@ pub fn field_count(code: u64) -> u64
     0
 }
 
-// Cycles and fields as they were read, 0 for the fields that the code does not have.
+// An operation whose code is known, as far as its cycles and fields could be read.
 struct Fields {
-    cycles: u64,
-    a: u64,
-    b: u64,
-    c: u64,
-    d: u64,
+    // The operation, where all of them were.
+    numbers: Numbers,
     // The place after the last of them, or where the bad or missing number starts.
     next: usize,
     // Whether all of them were read.
@@ -92,7 +89,7 @@ struct Fields {
 // Cycles and fields after a code. A loop, since `number_at` is compiled into the one place that reads a number in it: a number of
 // one byte takes no call (document 02, Three; docs/landings/03-short-path.md).
 fn fields_at(bytes: &[u8], at: usize, code: u64) -> Fields
-    ensures { λ r. ⌜ cond (r .good) (Reading.Operation (numbers code (r .cycles) (r .a) (r .b) (r .c) (r .d)) (r .next)) (Reading.Refused 1 (r .next)) ≡ withFields code (numbersAt (suc (fieldCount code)) (now (bytes .entry)) at) ⌝ }
+    ensures { λ r. ⌜ cond (r .good) (Reading.Operation (r .numbers) (r .next)) (Reading.Refused 1 (r .next)) ≡ withFields code (numbersAt (suc (fieldCount code)) (now (bytes .entry)) at) ⌝ }
 {
     let count = field_count(code) as usize + 1;
     let mut list = [0u64; 5];
@@ -100,12 +97,9 @@ fn fields_at(bytes: &[u8], at: usize, code: u64) -> Fields
     let mut i = 0;
     while i < count {
         let Found::Value(n, after) = number_at(bytes, next) else {
+            let numbers = Numbers::new(code, 0, 0, 0, 0, 0);
             return Fields {
-                cycles: 0,
-                a: 0,
-                b: 0,
-                c: 0,
-                d: 0,
+                numbers,
                 next,
                 good: false,
             };
@@ -114,12 +108,9 @@ fn fields_at(bytes: &[u8], at: usize, code: u64) -> Fields
         next = after;
         i = i + 1;
     }
+    let numbers = Numbers::new(code, list[0], list[1], list[2], list[3], list[4]);
     Fields {
-        cycles: list[0],
-        a: list[1],
-        b: list[2],
-        c: list[3],
-        d: list[4],
+        numbers,
         next,
         good: true,
     }
@@ -139,8 +130,8 @@ pub fn operation_at(bytes: &[u8], at: usize) -> Reading
     if !f.good {
         return Reading::Refused(MALFORMED, f.next);
     }
-    let x = Numbers::new(code, f.cycles, f.a, f.b, f.c, f.d);
-    Reading::Operation(x, f.next)
+    let numbers = f.numbers;
+    Reading::Operation(numbers, f.next)
 }
 
 // How many bytes the first numbers of a list have: never more than ten each.

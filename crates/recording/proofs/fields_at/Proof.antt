@@ -21,10 +21,10 @@ loop-holds c = let a = c .before .before .args in (held-none (now (a .bytes)) (a
 
 returns : tie.Need-returns Inv-loop μ-loop
 returns c =
-    let l = c .before .before .before in
+    let l = c .before .before .before .before in
     let count = l .before .field-count .ensures .0 in
     let a = l .before .before .before .args in
-    sym (ap (withFields (a .code)) (held-bad (l .loop .inv .0) (c .before .number-at .ensures) (c .match .keys2) (suc (fieldCount (a .code))) (omega arith)))
+    sym (ap (withFields (a .code)) (held-bad (l .loop .inv .0) (c .before .before .number-at .ensures) (c .before .match .keys2) (suc (fieldCount (a .code))) (omega arith)))
 
 loop-again : tie.Need-loop-again Inv-loop μ-loop
 loop-again c =
@@ -34,9 +34,9 @@ loop-again c =
 
 returns-2 : tie.Need-returns-2 Inv-loop μ-loop
 returns-2 c =
-    let l = c .before in
+    let l = c .before .before in
     let code = l .before .before .before .args .code in
-    sym (held-all (l .loop .inv .0) code (suc (fieldCount code)) (omega (arith, l .before .field-count .ensures .0)))
+    rw (c .new2 .ensures) (sym (held-all (l .loop .inv .0) code (suc (fieldCount code)) (omega (arith, l .before .field-count .ensures .0))))
 
 pub fields-at-spec : {M : Type 1} → statement M
 fields-at-spec =
@@ -49,6 +49,7 @@ fields-at-spec =
     loop-holds
     (λ _ _. tt)
     (λ c. search needs)
+    (λ _ _. tt)
     returns
     (λ c. omega arith)
     (λ c. omega arith)
@@ -60,4 +61,5 @@ fields-at-spec =
     (λ c. omega arith)
     (λ c. omega arith)
     (λ c. omega arith)
+    (λ _ _. tt)
     returns-2)

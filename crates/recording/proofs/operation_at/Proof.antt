@@ -26,8 +26,8 @@ operation-at-spec =
     let f = c .before .before in
     let v = f .before .before .before .code .given in
     rw (← f .before .before .before .before .before .number-at .ensures, v .1, le-ltb lastCode (v .0 .0) (omega arith), ← f .fields-at .ensures, not-true (f .fields-at .result .good) (c .if2 .taken)))
-    (λ _ _. tt)
     (λ c.
-    let f = c .before .before .before in
+    let x = c .before in
+    let f = x .before .before in
     let v = f .before .before .before .code .given in
-    rw (← f .before .before .before .before .before .number-at .ensures, v .1, le-ltb lastCode (v .0 .0) (omega arith), ← f .fields-at .ensures, not-false (f .fields-at .result .good) (c .before .if2 .left), c .new .ensures)))
+    rw (← f .before .before .before .before .before .number-at .ensures, v .1, le-ltb lastCode (v .0 .0) (omega arith), ← f .fields-at .ensures, not-false (f .fields-at .result .good) (x .if2 .left))))
