@@ -1,9 +1,12 @@
-/* A proved model of one processor's Arm branch record buffer (BRBE), version 0.3.0. docs/MANUAL.md says all of it: what
+/* A proved model of one processor's Arm branch record buffer (BRBE), version 1.0.0. docs/MANUAL.md says all of it: what
  * each operation does, each register, each refusal.
  *
- * What changed for a host in 0.3.0: brb_batch takes a whole run of recorded operations in one call, and BRB_ANSWER_NUMBERS and
- * BRB_BATCH_NUMBERS say how much to lend for its answers. In 0.2.0: a BRB IALL that is performed makes the next count unknown,
- * as on the chip; one that is undefined or traps does not. Nothing else changed but the version's numbers, and no call.
+ * What changed for a host in 1.0.0: brb_count_decode answers the smallest and the largest count that share an encoding, as a
+ * struct brb_spread, where it answered the smallest alone as a struct brb_answer: what was `value` is `low`. brb_count_sum adds
+ * up a run of encodings, both ends, and has a refusal of its own, BRB_REFUSED_SUM. In 0.3.0: brb_batch takes a whole run of
+ * recorded operations in one call, and BRB_ANSWER_NUMBERS and BRB_BATCH_NUMBERS say how much to lend for its answers. In
+ * 0.2.0: a BRB IALL that is performed makes the next count unknown, as on the chip; one that is undefined or traps does not.
+ * Nothing else changed but the version's numbers.
  *
  * The model keeps nothing between calls: the host lends it the state and the records, and each call changes them in
  * place or, where it refuses, leaves every lent number as it was. No call allocates, blocks or fails otherwise.
@@ -30,7 +33,8 @@
  *     5    refused: the level does not permit the operation
  *     6    refused: the room is too short (or what else a function writes to, as it says)
  *     7    refused: the state is not sound, or its memory is too short to hold it
- * Refusals are checked in the order 7, 2, 3, 4, 5, 6, and have the value 0. A refused operation's cycles do not count.
+ *     9    refused: a sum passes 2^64 - 1 (brb_count_sum alone)
+ * Refusals are checked in the order 7, 2, 3, 4, 5, 6, 9, and have the value 0. A refused operation's cycles do not count.
  *
  * The archive, libbrb.a, is for Linux on x86-64 (x86_64-unknown-linux-gnu: ELF, the System V calling convention), and calls
  * memmove and memset of the C library and nothing else. Its code is position independent; it becomes a shared library by
@@ -50,10 +54,10 @@ extern "C" {
 
 /* This header's version. It grows in MAJOR where a host has to change, in MINOR where something is added or an answer becomes
  * another. */
-#define BRB_VERSION_MAJOR 0
-#define BRB_VERSION_MINOR 3
+#define BRB_VERSION_MAJOR 1
+#define BRB_VERSION_MINOR 0
 #define BRB_VERSION_PATCH 0
-#define BRB_VERSION "0.3.0"
+#define BRB_VERSION "1.0.0"
 
 /* A constant of 64 bits. C89 has no literal for it, and C++ warns of C's casts. */
 #ifdef __cplusplus
@@ -90,6 +94,7 @@ extern "C" {
 #define BRB_REFUSED_LEVEL 5
 #define BRB_REFUSED_ROOM 6
 #define BRB_REFUSED_STATE 7
+#define BRB_REFUSED_SUM 9
 
 /* Whether an answer's number is a refusal. */
 #define BRB_IS_REFUSED(number) ((number) != BRB_DONE && (number) < BRB_UNDEFINED)
@@ -216,8 +221,8 @@ extern "C" {
 #define BRB_VALID_HALF_SOURCE 2
 #define BRB_VALID_FULL 3
 
-/* The largest known count; what the running count stops at, which a decoded count is where it exceeded the counter; and
- * the CC that says so. */
+/* The largest known count; what the running count stops at, which is the smallest count that exceeded the counter; and the
+ * CC that says so. */
 #define BRB_COUNT_LARGEST 1048575
 #define BRB_COUNT_EXCEEDED 1048576
 #define BRB_CC_EXCEEDED 0x3FFF
@@ -263,9 +268,25 @@ struct brb_answer brb_read(uint64_t *state, size_t state_numbers, uint64_t *room
 /* A cycle count as BRBINF's 14-bit field CC: rounded down, and 0x3FFF above 1,048,575. Any number has an answer. */
 uint64_t brb_count_encode(uint64_t count);
 
-/* What a CC field says: number 0 with the count it stands for; number 0 with 1,048,576, which no known count is, where
- * the count exceeded the counter (0x3FFF); number 4 with 0 where no count has this encoding. */
-struct brb_answer brb_count_decode(uint64_t cc);
+/* The counts that an encoding may stand for: the smallest, `low`, and the largest, `high`. Where `bounded` is 0 there is no
+ * largest, and `high` is 0. `number` is 0, or a refusal with 0 in all else. */
+struct brb_spread {
+    uint64_t number;
+    uint64_t low;
+    uint64_t high;
+    uint64_t bounded;
+};
+
+/* What a CC field says: the smallest and the largest count that have this encoding. Number 0 and bounded 1 where there is such
+ * a count; number 0, low 1,048,576, high 0 and bounded 0 where the count exceeded the counter (0x3FFF); number 4 and all else 0
+ * where no count has this encoding. A record with CCU 1 has no count, although its CC is 0. */
+struct brb_spread brb_count_decode(uint64_t cc);
+
+/* The sum of a run of counts by their encodings: `low` is the sum of the smallest counts and `high` that of the largest, so that
+ * the sum of the counts themselves lies between them. Where one of them exceeded the counter there is no largest (high 0,
+ * bounded 0). Number 4 where one of them is no encoding; else number 9 where `low`, or `high` if there is one, would pass
+ * 2^64 - 1; all else is then 0. No encodings at all (a count of 0, NULL too) are 0, 0, 0 and bounded 1. */
+struct brb_spread brb_count_sum(const uint64_t *cc, size_t count);
 
 /* One register of the records, as a bank of a buffer of this size shows it: BRBINF<m>, BRBSRC<m> or BRBTGT<m> with BANK in
  * BRBFCR_EL1. Number 0 with the register of record m + 32 * bank, or with 0 where that is not below the size; number 4 with

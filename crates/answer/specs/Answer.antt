@@ -8,7 +8,7 @@ use Rattle.answer.specs.declared.Returned.{Returned}
 
 -- The number and the value of each answer. Refusals have the numbers of the table, 1 to 7; what is accepted has 0 where it
 -- was done and, where an access was not performed, 100 (undefined), 102 (trapped to EL2) or 103 (trapped to EL3). Only `Value`
--- has a value: what a read shows, a decoded count, how many bytes were written, or where reading goes on.
+-- has a value: what a read shows, how many bytes were written, or where reading goes on.
 abbrev pub returned : Answer → Returned
 returned Done = record { number = 0; value = 0 }
 returned (Value v) = record { number = 0; value = v }

@@ -2,7 +2,7 @@
 ghost use mathlib.Core.Path.{_≡_};
 ghost use Rattle.answer.specs.Answer.{returned, isDone};
 
-// An answer. Steps, accesses, the bank view, decoding, and the reader and writer of recordings answer with it.
+// An answer. Steps, accesses, the bank view, and the reader and writer of recordings answer with it.
 pub enum Answer {
     // Done, with nothing to show.
     Done,

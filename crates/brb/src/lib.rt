@@ -2,7 +2,8 @@
 // include/brb.h says what each number means. Everything is decided below: this crate holds exports only.
 ghost use mathlib.Core.Path.{_≡_};
 ghost use Rattle.answer.specs.Answer.{returned};
-ghost use Rattle.count.specs.Count.{encoded, decoded, decodedAnswer};
+ghost use Rattle.count.specs.Count.{encoded, decoded, spreadOf};
+ghost use Rattle.sum.specs.Sum.{summed};
 ghost use Rattle.bank.specs.Bank.{bankShows};
 ghost use Rattle.recording.specs.Recording.{numbers, writingOf, writtenOperation};
 ghost use Rattle.recorder.specs.Result.{together};
@@ -15,6 +16,7 @@ use bank::bank_inf;
 use bank::bank_source;
 use bank::bank_target;
 use batch::batch;
+use count::Spread;
 use operation::operation_of;
 use recorder::lent_step;
 use recording::Numbers;
@@ -64,13 +66,21 @@ pub extern "C" fn brb_count_encode(n: u64) -> u64
     count::encode(n)
 }
 
-// What a CC field says.
+// What a CC field says: both ends of the counts that have it.
 #[no_mangle]
-pub extern "C" fn brb_count_decode(cc: u64) -> Returned
-    ensures { λ r. ⌜ r ≡ returned (decodedAnswer (decoded cc)) ⌝ }
+pub extern "C" fn brb_count_decode(cc: u64) -> Spread
+    ensures { λ r. ⌜ r ≡ spreadOf (decoded cc) ⌝ }
 {
     let decoded = count::decode(cc);
-    decoded.answer().returned()
+    decoded.spread()
+}
+
+// The sum of a run of CC fields, both ends.
+#[no_mangle]
+pub extern "C" fn brb_count_sum(run: &[u64]) -> Spread
+    ensures { λ r. ⌜ r ≡ summed (now (run .entry)) ⌝ }
+{
+    sum::sum(run)
 }
 
 // BRBINF of register m, as one bank of a room shows it.

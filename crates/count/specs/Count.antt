@@ -1,11 +1,11 @@
 -- A cycle count in BRBINF's field CC: eight bits of mantissa M below six bits of exponent E. Document 01, "Cycles", second
--- paragraph; docs/MANUAL.md, "Cycles"; Arm's BRBINF<n>_EL1.CC.
+-- paragraph; document 02, "Four"; docs/MANUAL.md, "Cycles" and "The spread of a count"; Arm's BRBINF<n>_EL1.CC.
 use Prim.Native.Nat.{ℕ, zero, suc, _+_, _*_, _-_, _^_, _/_, _%_}
 use mathlib.Core.Bool.{cond}
 use lib.Dec.{leb, ltb, eqb}
-use Rattle.answer.specs.declared.Answer.{Answer}
 use Rattle.count.specs.declared.Decoded.{Decoded}
 use Rattle.count.specs.declared.Decoded.the-variants.{Known, Exceeded, Refused}
+use Rattle.count.specs.declared.Spread.{Spread}
 
 -- The largest count of a cycle counter of 20 bits: R_HQXNW, BRBIDR0_EL1.CC is 0b0101.
 abbrev pub largestCount : ℕ
@@ -34,16 +34,36 @@ mantissa n = cond (ltb n 256) n (n / 2 ^ (exponent n - 1) - 256)
 unfoldable pub encoded : ℕ → ℕ
 encoded n = cond (leb n largestCount) (256 * exponent n + mantissa n) exceeded
 
--- The count that E and M stand for. Arm: if IsZero(E) then UInt(M) else UInt('1':M:Zeros(UInt(E)-1)).
-unfoldable pub countOf : ℕ → ℕ → ℕ
-countOf e m = cond (eqb e 0) m ((256 + m) * 2 ^ (e - 1))
+-- The smallest count that E and M stand for: the digits that were dropped are all zeros. Arm: if IsZero(E) then UInt(M) else
+-- UInt('1':M:Zeros(UInt(E)-1)).
+unfoldable pub smallestOf : ℕ → ℕ → ℕ
+smallestOf e m = cond (eqb e 0) m ((256 + m) * 2 ^ (e - 1))
 
--- What a CC says. A count of 20 bits has no E above 12, so that such a CC, but for all ones, says nothing.
+-- The largest one: they are all ones (document 02, "Four").
+unfoldable pub largestOf : ℕ → ℕ → ℕ
+largestOf e m = cond (eqb e 0) m (smallestOf e m + (2 ^ (e - 1) - 1))
+
+-- What a CC says: the smallest and the largest count that share it. A count of 20 bits has no E above 12, so that such a CC,
+-- but for all ones, says nothing.
 unfoldable pub decoded : ℕ → Decoded
-decoded cc = cond (eqb cc exceeded) Exceeded (cond (leb (cc / 256) 12) (Known (countOf (cc / 256) (cc % 256))) Refused)
+decoded cc =
+    cond (eqb cc exceeded) Exceeded
+    (cond (leb (cc / 256) 12) (Known (smallestOf (cc / 256) (cc % 256)) (largestOf (cc / 256) (cc % 256))) Refused)
 
--- The answer of decoding: the count; 1,048,576, which no known count is, where it exceeded the counter (house); or refusal 4.
-abbrev pub decodedAnswer : Decoded → Answer
-decodedAnswer (Known n) = Answer.Value n
-decodedAnswer Exceeded = Answer.Value 1048576
-decodedAnswer Refused = Answer.Refused 4
+-- Four numbers with both ends.
+abbrev pub fromTo : ℕ → ℕ → Spread
+fromTo low high = record { number = 0; low = low; high = high; bounded = 1 }
+
+-- Four numbers without an upper end.
+abbrev pub atLeast : ℕ → Spread
+atLeast low = record { number = 0; low = low; high = 0; bounded = 0 }
+
+-- The four numbers of a refusal.
+abbrev pub refusedWith : ℕ → Spread
+refusedWith n = record { number = n; low = 0; high = 0; bounded = 0 }
+
+-- What was decoded as four numbers: both ends; where the count exceeded the counter, 1,048,576 and no upper end; or refusal 4.
+abbrev pub spreadOf : Decoded → Spread
+spreadOf (Known low high) = fromTo low high
+spreadOf Exceeded = atLeast 1048576
+spreadOf Refused = refusedWith 4

@@ -1,16 +1,29 @@
-// The encoding of a cycle count in BRBINF's field CC (document 01, "Cycles"; docs/MANUAL.md, the same; BRBINF<n>_EL1.CC).
+// The encoding of a cycle count in BRBINF's field CC (document 01, "Cycles"; document 02, "Four"; docs/MANUAL.md, "Cycles" and "The
+// spread of a count"; BRBINF<n>_EL1.CC).
 ghost use mathlib.Core.Path.{_≡_};
-ghost use Rattle.count.specs.Count.{encoded, decoded, decodedAnswer};
-use answer::Answer;
+ghost use Rattle.count.specs.Count.{encoded, decoded, fromTo, atLeast, refusedWith, spreadOf};
 
 // What a CC value says of the count.
 pub enum Decoded {
-    // The count, rounded down as the encoding rounds.
-    Known(u64),
+    // The smallest and the largest count that have this encoding.
+    Known(u64, u64),
     // The count exceeded the cycle counter.
     Exceeded,
     // No such encoding: refusal 4.
     Refused,
+}
+
+// The counts that an encoding, or a run of them, may stand for, as a host is answered.
+#[repr(C)]
+pub struct Spread {
+    // 0, or the number of a refusal, which has 0 in all else.
+    pub number: u64,
+    // The smallest count.
+    pub low: u64,
+    // The largest count, and 0 where there is none.
+    pub high: u64,
+    // 1 where there is a largest count, else 0.
+    pub bounded: u64,
 }
 
 // The cycle counter has 20 bits: BRBIDR0_EL1.CC is 0b0101.
@@ -36,7 +49,8 @@ pub fn encode(n: u64) -> u64
     256 * e + m
 }
 
-// What CC says: a count, that the counter was exceeded, or nothing that BRBINF<n>_EL1.CC defines. A count of 20 bits has no E above 12.
+// What CC says: which counts have it, that the counter was exceeded, or nothing that BRBINF<n>_EL1.CC defines. A count of 20 bits has
+// no E above 12. The E-1 digits that the encoding dropped may be all zeros, all ones, or anything between.
 pub fn decode(cc: u64) -> Decoded
     ensures { λ r. ⌜ r ≡ decoded cc ⌝ }
 {
@@ -49,20 +63,65 @@ pub fn decode(cc: u64) -> Decoded
         return Decoded::Refused;
     }
     if e == 0 {
-        return Decoded::Known(m);
+        return Decoded::Known(m, m);
     }
-    Decoded::Known((256 + m) << (e - 1))
+    let low = (256 + m) << (e - 1);
+    let dropped = (1 << (e - 1)) - 1;
+    Decoded::Known(low, low + dropped)
+}
+
+// `bounded` where there is a largest count, and where there is none.
+const BOUNDED: u64 = 1;
+
+const UNBOUNDED: u64 = 0;
+
+impl Spread {
+    // Both ends.
+    pub fn from_to(low: u64, high: u64) -> Spread
+        ensures { λ r. ⌜ r ≡ fromTo low high ⌝ }
+    {
+        Spread {
+            number: 0,
+            low: low,
+            high: high,
+            bounded: BOUNDED,
+        }
+    }
+
+    // A lower end alone.
+    pub fn at_least(low: u64) -> Spread
+        ensures { λ r. ⌜ r ≡ atLeast low ⌝ }
+    {
+        Spread {
+            number: 0,
+            low: low,
+            high: 0,
+            bounded: UNBOUNDED,
+        }
+    }
+
+    // A refusal: its number, and nothing else.
+    pub fn refused(number: u64) -> Spread
+        ensures { λ r. ⌜ r ≡ refusedWith number ⌝ }
+    {
+        Spread {
+            number: number,
+            low: 0,
+            high: 0,
+            bounded: UNBOUNDED,
+        }
+    }
 }
 
 impl Decoded {
-    // As an answer: a value, or refusal 4. A count that exceeded the counter has 1,048,576, which no known count is.
-    pub fn answer(self) -> Answer
-        ensures { λ r. ⌜ r ≡ decodedAnswer self ⌝ }
+    // As four numbers. A count that exceeded the counter is at least 1,048,576, and has no upper end.
+    pub fn spread(self) -> Spread
+        ensures { λ r. ⌜ r ≡ spreadOf self ⌝ }
     {
         match self {
-            Decoded::Known(n) => Answer::Value(n),
-            Decoded::Exceeded => Answer::Value(1_048_576),
-            Decoded::Refused => Answer::Refused(4),
+            Decoded::Known(low, high) => Spread::from_to(low, high),
+            Decoded::Exceeded => Spread::at_least(1_048_576),
+            Decoded::Refused => Spread::refused(4),
         }
     }
 }

@@ -1,9 +1,13 @@
--- Closed: each number is answered for some input, by the step, by the recorded step and by a batch.
+-- Closed: each number is answered for some input, by the step, by the recorded step, by a batch, and by decoding and sums, whose 9 no
+-- computed run reaches (`sum.proofs.Laws.nine-is-met`).
 use Prim.Native.Nat.{ℕ}
 use mathlib.Core.Path.{_≡_, refl}
-use mathlib.Core.List.{List, [], _∷_}
+use mathlib.Core.List.{List, [], _∷_, map}
 use lib.ListN.{replicate}
 use Rattle.answer.specs.declared.Returned.{Returned}
+use Rattle.count.specs.declared.Spread.{Spread}
+use Rattle.count.specs.Count.{smallestOf, largestOf, decoded, fromTo, atLeast, refusedWith, spreadOf}
+use Rattle.sum.specs.Sum.{added, every, sumOf, summed}
 use Rattle.number.specs.Number.{numberIn, numberAt}
 use Rattle.state.specs.Sound.{unavailable, sound}
 use Rattle.state.specs.Words.{loaded, judged, stored}
@@ -69,3 +73,15 @@ pub closed-batch : (batch fresh 9 ≡ batched (record { number = 0; value = 4 })
     × (batch [] 9 ≡ batched (record { number = 7; value = 0 }) [] (replicate 24 5) (replicate 9 9))
 unfolding numberIn numberAt loaded judged stored unavailable sound cleared roomAfter records enabled prohibited nBit trapped2 outcome readOutcome registerValue operationOf unknownCode notReset outsideList wrongLevel roomTooShort refusalOf changed occasion passed effectOf answerOf accepted stepOf lentStep fieldCount numbersAt operationAt readFrom readings steps inNumbers batchOf batchResult
 closed-batch = (refl, refl, refl)
+
+-- What single encodings are answered: one count, four counts, those of P8, one that exceeded, and no encoding.
+pub closed-spreads : map {B = Spread} (λ (cc : ℕ). spreadOf (decoded cc)) (0xFF ∷ 0x300 ∷ 0xCFF ∷ 0x3FFF ∷ 0xD00 ∷ [])
+    ≡ fromTo 255 255 ∷ fromTo 1024 1027 ∷ fromTo 1046528 1048575 ∷ atLeast 1048576 ∷ refusedWith 4 ∷ []
+unfolding smallestOf largestOf decoded
+closed-spreads = refl
+
+-- Sums: of nothing; of two known counts; of one that exceeded and a known one; and 4, which one that exceeded does not hide.
+pub closed-sums : map summed ([] ∷ (0x7C4 ∷ 0x12C ∷ []) ∷ (0x3FFF ∷ 0x12C ∷ []) ∷ (0x3FFF ∷ 0xD00 ∷ []) ∷ [])
+    ≡ fromTo 0 0 ∷ fromTo 29228 29291 ∷ atLeast 1048876 ∷ refusedWith 4 ∷ []
+unfolding smallestOf largestOf decoded added every sumOf summed
+closed-sums = refl

@@ -15,7 +15,9 @@ use Rattle.answer.specs.Answer.{returned}
 use Rattle.bits.specs.Bits.{oneOf}
 use Rattle.count.specs.declared.Decoded.{Decoded}
 use Rattle.count.specs.declared.Decoded.the-variants.{Known, Exceeded}
-use Rattle.count.specs.Count.{exceeded, countOf, decoded, decodedAnswer}
+use Rattle.count.specs.declared.Spread.{Spread}
+use Rattle.count.specs.Count.{exceeded, smallestOf, largestOf, decoded, fromTo, atLeast, refusedWith, spreadOf}
+use Rattle.sum.specs.Sum.{lowSum, highSum, allListed, allBounded, largestNumber, sumOf, summed}
 use Rattle.number.specs.declared.Found.{Found}
 use Rattle.number.specs.declared.Found.the-variants.{Value, Malformed, Ended}
 use Rattle.number.specs.Number.{numberAt, written, writtenIf}
@@ -44,7 +46,7 @@ use Rattle.batch.specs.Batch.{Batch, batched, steps, doneAll, batchOf}
 use Rattle.brb.specs.Recordings.{readInto, ofReading, readResult, recordedResult, batchInNumbers, batchResult}
 use Rattle.demands.specs.First.{First, here, later, none, Accepted, AnswersBy, refuses, accepts}
 use Rattle.demands.proofs.Demand1.{first, step-number}
-use Rattle.face.specs.Lines.{Lines, tooFew, batchLines, stepLines, codeAt, valuesOf, restAt, readingLines, recordedLines, readLines, writeLines, bankLines, decodeLines}
+use Rattle.face.specs.Lines.{Lines, tooFew, batchLines, stepLines, codeAt, valuesOf, restAt, readingLines, recordedLines, readLines, writeLines, bankLines, decodeLines, sumLines}
 
 -- ---- lines one after another
 
@@ -285,7 +287,7 @@ write-refused x at out = go (ltb lastCode (x .code)) (leb (at + length (operatio
     go false true h = absurd (h refl)
     go false false h = (refl, refl)
 
--- ---- the bank view and decoding, which only read what is lent
+-- ---- the bank view, decoding and adding up, which only read what is lent
 
 pub bank-answers : (register : Record → ℕ) (size bank m : ℕ) (room : List ℕ)
     → First (bankLines size bank m room) (returned (bankShows register size bank m room) .number)
@@ -310,21 +312,52 @@ bank-refused register size bank m room = go (eqb (bankRefusal size bank m room) 
     go true h = absurd (h refl)
     go false h = refl
 
-pub decode-answers : (cc : ℕ) → First (decodeLines cc) (returned (decodedAnswer (decoded cc)) .number)
+pub decode-answers : (cc : ℕ) → First (decodeLines cc) (spreadOf (decoded cc) .number)
 unfolding decoded
 decode-answers cc = go (eqb cc exceeded)
   where
     go : (t : Bool) → First ((4, not t && ltb 12 (cc / 256)) ∷ [])
-        (returned (decodedAnswer (cond t Exceeded (cond (leb (cc / 256) 12) (Known (countOf (cc / 256) (cc % 256))) Decoded.Refused))) .number)
+        (spreadOf (cond t Exceeded (cond (leb (cc / 256) 12) (Known (smallestOf (cc / 256) (cc % 256)) (largestOf (cc / 256) (cc % 256))) Decoded.Refused)) .number)
     go true = later none
     go false =
         ⊎-elim (λ (high : 12 < cc / 256). rw (lt-ltb 12 (cc / 256) high, lt-leb (cc / 256) 12 high) here)
         (λ (low : cc / 256 ≤ 12). rw (le-ltb 12 (cc / 256) low, le-leb (cc / 256) 12 low) (later none)) (below-or-not 12 (cc / 256))
 
-pub decode-refused : (cc : ℕ) → returned (decodedAnswer (decoded cc)) .number ≢ 0 → returned (decodedAnswer (decoded cc)) .value ≡ 0
+-- Where it refuses, all else is 0.
+pub decode-refused : (cc : ℕ) → spreadOf (decoded cc) .number ≢ 0 → spreadOf (decoded cc) ≡ refusedWith (spreadOf (decoded cc) .number)
 decode-refused cc = go (decoded cc)
   where
-    go : (d : Decoded) → returned (decodedAnswer d) .number ≢ 0 → returned (decodedAnswer d) .value ≡ 0
-    go (Known n) h = absurd (h refl)
+    go : (d : Decoded) → spreadOf d .number ≢ 0 → spreadOf d ≡ refusedWith (spreadOf d .number)
+    go (Known low high) h = absurd (h refl)
     go Exceeded h = absurd (h refl)
     go Decoded.Refused h = refl
+
+-- The sum by its four tests.
+abbrev sumBy : List ℕ → Bool → Bool → Bool → Bool → Spread
+sumBy run listed low bounded high =
+    cond (not listed) (refusedWith 4)
+    (cond low (refusedWith 9) (cond (not bounded) (atLeast (lowSum run)) (cond high (refusedWith 9) (fromTo (lowSum run) (highSum run)))))
+
+pub sum-answers : (run : List ℕ) → First (sumLines run) (summed run .number)
+unfolding summed sumOf
+sum-answers run = go (allListed run) (ltb largestNumber (lowSum run)) (allBounded run) (ltb largestNumber (highSum run))
+  where
+    go : (listed low bounded high : Bool) → First ((4, not listed) ∷ (9, low) ∷ (9, bounded && high) ∷ []) (sumBy run listed low bounded high .number)
+    go false low bounded high = here
+    go true true bounded high = later here
+    go true false false high = later (later (later none))
+    go true false true true = later (later here)
+    go true false true false = later (later (later none))
+
+-- Where it refuses, all else is 0.
+pub sum-refused : (run : List ℕ) → summed run .number ≢ 0 → summed run ≡ refusedWith (summed run .number)
+unfolding summed sumOf
+sum-refused run = go (allListed run) (ltb largestNumber (lowSum run)) (allBounded run) (ltb largestNumber (highSum run))
+  where
+    go : (listed low bounded high : Bool) → sumBy run listed low bounded high .number ≢ 0
+        → sumBy run listed low bounded high ≡ refusedWith (sumBy run listed low bounded high .number)
+    go false low bounded high h = refl
+    go true true bounded high h = refl
+    go true false false high h = absurd (h refl)
+    go true false true true h = refl
+    go true false true false h = absurd (h refl)

@@ -1,5 +1,5 @@
 -- By which lines each exported function refuses, in their order: document 01, "Refusal numbers, in order of checking", and for the bank
--- view "Access outcomes", last paragraph.
+-- view "Access outcomes", last paragraph; for sums document 02, "Four".
 use Prim.Native.Nat.{ℕ, suc, _+_, _*_, _/_}
 use mathlib.Core.Bool.{Bool, true, false, _&&_, not}
 use mathlib.Core.List.{List, [], _∷_, _++_}
@@ -7,6 +7,7 @@ use lib.Dec.{eqb, ltb}
 use lib.ListN.{length, drop}
 use Rattle.bits.specs.Bits.{oneOf}
 use Rattle.count.specs.Count.{exceeded}
+use Rattle.sum.specs.Sum.{lowSum, highSum, allListed, allBounded, largestNumber}
 use Rattle.number.specs.declared.Found.{Found}
 use Rattle.number.specs.declared.Found.the-variants.{Value, Malformed, Ended}
 use Rattle.number.specs.Number.{numberAt}
@@ -102,7 +103,7 @@ abbrev pub batchLines : List ℕ → List ℕ → List ℕ → Lines
 batchLines words bytes answers =
     tooFew words ∷ (7, not (sound (stateOf words))) ∷ (6, ltb (length answers) (2 * length (readings bytes))) ∷ []
 
--- ---- lines of the bank view and of decoding
+-- ---- lines of the bank view, of decoding and of adding up
 
 -- `brb_bank_inf`, `brb_bank_source`, `brb_bank_target`: 4 for a size, a BANK or an m outside its list; 6 for too short a room.
 abbrev pub bankLines : ℕ → ℕ → ℕ → List ℕ → Lines
@@ -112,3 +113,9 @@ bankLines size bank m room =
 -- `brb_count_decode`: 4 for an E above 12, but for all ones.
 abbrev pub decodeLines : ℕ → Lines
 decodeLines cc = (4, not (eqb cc exceeded) && ltb 12 (cc / 256)) ∷ []
+
+-- `brb_count_sum`: 4 for an encoding outside its list; 9 where the sum of the smallest counts, or that of the largest if there is an
+-- upper end, passes the largest number.
+abbrev pub sumLines : List ℕ → Lines
+sumLines run =
+    (4, not (allListed run)) ∷ (9, ltb largestNumber (lowSum run)) ∷ (9, allBounded run && ltb largestNumber (highSum run)) ∷ []

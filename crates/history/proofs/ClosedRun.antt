@@ -8,7 +8,7 @@ use Rattle.state.specs.Named.{fresh}
 use Rattle.room.specs.declared.Record.{Record}
 use Rattle.operation.specs.Operation.{operationOf}
 use Rattle.filter.specs.Filter.{filterBit, passesFilter}
-use Rattle.count.specs.Count.{bitLength, exponent, mantissa, encoded, countOf, decoded}
+use Rattle.count.specs.Count.{bitLength, exponent, mantissa, encoded, smallestOf, largestOf, decoded}
 use Rattle.state.specs.Sound.{unavailable, sound}
 use Rattle.room.specs.Room.{records, numbered, pushed, cleared, roomAfter}
 use Rattle.region.specs.Region.{enabled, prohibited}
@@ -18,7 +18,7 @@ use Rattle.operation.specs.Refusal.{unknownCode, notReset, outsideList, wrongLe
 use Rattle.operation.specs.Changed.{changed}
 use Rattle.change.specs.Change.{occasion, passed, effectOf}
 use Rattle.recorder.specs.Step.{answerOf, accepted, stepOf}
-use Rattle.history.specs.History.{Timed, Machine, stepped, run, shown, CCU, CC, notedStep, notedRun, history, notesOf, stretch, S, T, acceptedCycles, justMade}
+use Rattle.history.specs.History.{Timed, Machine, stepped, run, shown, CCU, CC, notedStep, notedRun, history, notesOf, stretch, endSum, S, U, T, acceptedCycles, justMade}
 use Rattle.history.specs.Events.{restarts, howMany, Between}
 use Rattle.history.proofs.Clock.{exact-time}
 
@@ -46,7 +46,7 @@ abbrev between : List Timed
 between = operation 1 300 0 0 4100 4112 ∷ operation 1 1000 7 0 4100 4112 ∷ operation 5 13 32 0 0 0 ∷ []
 
 abbrev after : List Timed
-after = between ++ (operation 1 500 0 0 4100 4112 ∷ [])
+after = between ++ (operation 1 1013 0 0 4100 4112 ∷ [])
 
 abbrev session : List Timed
 session = before ++ after
@@ -57,13 +57,13 @@ start = record { state = fresh; room = replicate 24 0 }
 abbrev seen : List Record
 seen = shown (run start session)
 
--- Records 0 to 2 are such a stretch: the counts 512 (of 513 cycles) and 300, over 813 cycles. Record 3 was cleared.
+-- Records 0 to 2 are such a stretch: the counts 1024 to 1027 (of 1026 cycles) and 300, over 1326 cycles. Record 3 was cleared.
 -- What `exact-time` assumes holds of the two parts of the session.
-pub closed-run : (_≡_ {A = Bool × Bool × ℕ × ℕ × ℕ} (stretch seen 0 2, stretch seen 0 3, S seen 0 2, T (notesOf start session) 0 2, acceptedCycles (run start before) after)
-    (true, false, 812, 813, 813))
+pub closed-run : (_≡_ {A = Bool × Bool × ℕ × ℕ × ℕ × ℕ} (stretch seen 0 2, stretch seen 0 3, S seen 0 2, U seen 0 2, T (notesOf start session) 0 2, acceptedCycles (run start before) after)
+    (true, false, 1324, 1327, 1326, 1326))
     × (howMany restarts (run start before) after ≡ 0) × justMade (history start before) × justMade (history start session)
     × (length (notesOf start session) ≡ 2 + length (notesOf start before))
-unfolding bitLength exponent mantissa encoded countOf decoded unavailable sound records numbered pushed cleared roomAfter enabled prohibited filterBit passesFilter controlled valid countUnknown MPRED BRBINF recordOf becomesRecord nBit trapped2 outcome readOutcome writeOutcome iallOutcome registerWritten operationOf unknownCode notReset outsideList wrongLevel roomTooShort refusalOf changed occasion passed effectOf answerOf accepted stepOf stepped run notedStep notedRun stretch S acceptedCycles howMany
+unfolding bitLength exponent mantissa encoded smallestOf largestOf decoded unavailable sound records numbered pushed cleared roomAfter enabled prohibited filterBit passesFilter controlled valid countUnknown MPRED BRBINF recordOf becomesRecord nBit trapped2 outcome readOutcome writeOutcome iallOutcome registerWritten operationOf unknownCode notReset outsideList wrongLevel roomTooShort refusalOf changed occasion passed effectOf answerOf accepted stepOf stepped run notedStep notedRun stretch endSum acceptedCycles howMany
 closed-run = (refl, refl, refl, refl, refl)
 
 closed-time : T (notesOf start session) 0 2 ≡ acceptedCycles (run start before) after
@@ -77,11 +77,11 @@ abbrev longer : List Timed
 longer = before ++ (after ++ more)
 
 pub closed-stretch : stretch (shown (run start longer)) 1 2 ≡ true
-unfolding bitLength exponent mantissa encoded countOf decoded unavailable sound records numbered pushed cleared roomAfter enabled prohibited filterBit passesFilter controlled valid countUnknown MPRED BRBINF recordOf becomesRecord nBit trapped2 outcome readOutcome writeOutcome iallOutcome registerWritten operationOf unknownCode notReset outsideList wrongLevel roomTooShort refusalOf changed occasion passed effectOf answerOf accepted stepOf stepped run notedStep notedRun stretch S acceptedCycles howMany
+unfolding bitLength exponent mantissa encoded smallestOf largestOf decoded unavailable sound records numbered pushed cleared roomAfter enabled prohibited filterBit passesFilter controlled valid countUnknown MPRED BRBINF recordOf becomesRecord nBit trapped2 outcome readOutcome writeOutcome iallOutcome registerWritten operationOf unknownCode notReset outsideList wrongLevel roomTooShort refusalOf changed occasion passed effectOf answerOf accepted stepOf stepped run notedStep notedRun stretch endSum acceptedCycles howMany
 closed-stretch = refl
 
 pub closed-between : Between start longer 1 2
-unfolding bitLength exponent mantissa encoded countOf decoded unavailable sound records numbered pushed cleared roomAfter enabled prohibited filterBit passesFilter controlled valid countUnknown MPRED BRBINF recordOf becomesRecord nBit trapped2 outcome readOutcome writeOutcome iallOutcome registerWritten operationOf unknownCode notReset outsideList wrongLevel roomTooShort refusalOf changed occasion passed effectOf answerOf accepted stepOf stepped run notedStep notedRun stretch S acceptedCycles howMany
+unfolding bitLength exponent mantissa encoded smallestOf largestOf decoded unavailable sound records numbered pushed cleared roomAfter enabled prohibited filterBit passesFilter controlled valid countUnknown MPRED BRBINF recordOf becomesRecord nBit trapped2 outcome readOutcome writeOutcome iallOutcome registerWritten operationOf unknownCode notReset outsideList wrongLevel roomTooShort refusalOf changed occasion passed effectOf answerOf accepted stepOf stepped run notedStep notedRun stretch endSum acceptedCycles howMany
 closed-between =
     record {
       before = before;
@@ -94,7 +94,7 @@ closed-between =
         kept = refl;
       };
       newest = record {
-        event = record { earlier = before ++ between; event = operation 1 500 0 0 4100 4112; ends = refl; makes = (refl, refl) };
+        event = record { earlier = before ++ between; event = operation 1 1013 0 0 4100 4112; ends = refl; makes = (refl, refl) };
         moved = refl;
         kept = refl;
       };
@@ -126,5 +126,5 @@ occasions =
 -- CCU and CC of the records, newest first.
 pub closed-occasions : map {B = ℕ × ℕ} (λ (r : Record). (CCU r, CC r)) (shown (run start occasions))
     ≡ (0, 75) ∷ (0, 60) ∷ (1, 0) ∷ (0, 40) ∷ (1, 0) ∷ (0, 20) ∷ (1, 0) ∷ (1, 0) ∷ []
-unfolding bitLength exponent mantissa encoded countOf decoded unavailable sound records numbered pushed cleared roomAfter enabled prohibited filterBit passesFilter controlled valid countUnknown MPRED BRBINF recordOf becomesRecord nBit trapped2 outcome readOutcome writeOutcome iallOutcome registerWritten operationOf unknownCode notReset outsideList wrongLevel roomTooShort refusalOf changed occasion passed effectOf answerOf accepted stepOf stepped run notedStep notedRun stretch S acceptedCycles howMany
+unfolding bitLength exponent mantissa encoded smallestOf largestOf decoded unavailable sound records numbered pushed cleared roomAfter enabled prohibited filterBit passesFilter controlled valid countUnknown MPRED BRBINF recordOf becomesRecord nBit trapped2 outcome readOutcome writeOutcome iallOutcome registerWritten operationOf unknownCode notReset outsideList wrongLevel roomTooShort refusalOf changed occasion passed effectOf answerOf accepted stepOf stepped run notedStep notedRun stretch endSum acceptedCycles howMany
 closed-occasions = refl

@@ -18,7 +18,7 @@ use Rattle.operation.specs.declared.Operation.the-variants.{Reset}
 use Rattle.operation.specs.Changed.{changed}
 use Rattle.change.specs.Change.{passed, effectOf, runningAfter}
 use Rattle.recorder.specs.Step.{accepted, stepOf}
-use Rattle.history.specs.History.{Timed, Machine, stepped, run, shown, Note, Noted, isAccepted, clockAfter, notesAfter, notedStep, notedRun, history, notesOf, FromReset, reset, unset, note, isValid, isCounted, count, stretch, S, T, Near}
+use Rattle.history.specs.History.{Timed, Machine, stepped, run, shown, Note, Noted, isAccepted, clockAfter, notesAfter, notedStep, notedRun, history, notesOf, FromReset, reset, unset, note, isValid, isCounted, stretch, endSum, S, U, T, Within}
 use Rattle.bits.proofs.Each.{each}
 use Rattle.history.proofs.Notes.{Timely, waited, began, made, Held, zero-invalid, held-cleared, held-pushed}
 use Rattle.operation.proofs.Laws.{accepts-if}
@@ -76,16 +76,23 @@ module _ (x : Noted) (g : Good x) where
   in-order i zero = rw add-zero (le-refl _)
   in-order i (suc n) = rw add-suc (le-trans (g .timely .falling (i + n)) (in-order i n))
 
-  near-stretch : (i n : ℕ) → stretch (shown (x .machine)) i n ≡ true → Near (S (shown (x .machine)) i n) (T (x .notes) i n)
-  unfolding stretch S
-  near-stretch i zero h = rw add-zero (omega arith)
-  near-stretch i (suc n) h =
+  within-stretch : (i n : ℕ) → stretch (shown (x .machine)) i n ≡ true
+      → Within (S (shown (x .machine)) i n) (U (shown (x .machine)) i n) (T (x .notes) i n)
+  unfolding stretch endSum
+  within-stretch i zero h = rw add-zero (record { near = omega arith; under = omega arith })
+  within-stretch i (suc n) h =
       let valid : isValid (numbered i (shown (x .machine))) ≡ true = search each in
       let counted : isCounted (numbered i (shown (x .machine))) ≡ true = search each in
       let rest : stretch (shown (x .machine)) (suc i) n ≡ true = search each in
       let is : numbered i (shown (x .machine)) ≡ note i (x .notes) .made = g .held i valid in
       let up : i + suc n ≡ suc i + n = omega arith in
-      rw (up, is) (omega (arith, g .timely .near i (rw is at counted), g .timely .falling i, in-order (suc i) n, near-stretch (suc i) n rest))
+      let one = g .timely .within i (rw is at counted) in
+      let others = within-stretch (suc i) n rest in
+      rw (up, is)
+      (record {
+        near = omega (arith, one .near, g .timely .falling i, in-order (suc i) n, others .near);
+        under = omega (arith, one .under, g .timely .falling i, in-order (suc i) n, others .under);
+      })
 
 -- ---- sequences from a reset
 
@@ -116,7 +123,7 @@ pub ordered : (m : Machine) (list : List Timed) → FromReset m list → (i n : 
 ordered m list from = in-order (history m list) (good from)
 
 -- Demand 3. In any sequence from a reset, over the neighbouring records i to i + n that a read then shows, all valid and
--- all but the oldest with a known, not exceeded count: S ≤ T and 256 * (T - S) ≤ S.
+-- all but the oldest with a known, not exceeded count: S ≤ T and 256 * (T - S) ≤ S; and T ≤ U.
 pub demand-3 : (m : Machine) (list : List Timed) → FromReset m list → (i n : ℕ) → stretch (shown (run m list)) i n ≡ true
-    → Near (S (shown (run m list)) i n) (T (notesOf m list) i n)
-demand-3 m list from = rw (plain m list) at (near-stretch (history m list) (good from))
+    → Within (S (shown (run m list)) i n) (U (shown (run m list)) i n) (T (notesOf m list) i n)
+demand-3 m list from = rw (plain m list) at (within-stretch (history m list) (good from))

@@ -1,5 +1,5 @@
--- Demand 3 by the operations alone: for every stretch the run is parted at the events of its oldest and its newest record, and S is near the
--- cycles of the accepted operations between.
+-- Demand 3 by the operations alone: for every stretch the run is parted at the events of its oldest and its newest record, and the cycles of
+-- the accepted operations between are near S and not above U.
 use Prim.Native.Nat.{ℕ, zero, suc, _+_, _-_, _≤_}
 use native.Mathlib.Nat.{add-zero}
 use native.Mathlib.Omega.{arith}
@@ -17,7 +17,7 @@ use Rattle.room.proofs.Laws.{records-pushed, records-cleared}
 use Rattle.operation.proofs.Laws.{accepts-if}
 use Rattle.change.specs.Change.{passed, effectOf}
 use Rattle.recorder.specs.Step.{accepted, stepOf}
-use Rattle.history.specs.History.{Timed, Machine, stepped, run, shown, Note, Noted, isAccepted, effectIn, clockAfter, notesAfter, notedStep, notedRun, history, notesOf, note, resetWith, FromReset, reset, unset, isValid, stretch, S, T, Near, acceptedCycles}
+use Rattle.history.specs.History.{Timed, Machine, stepped, run, shown, Note, Noted, isAccepted, effectIn, clockAfter, notesAfter, notedStep, notedRun, history, notesOf, note, resetWith, FromReset, reset, unset, isValid, stretch, S, U, T, Within, acceptedCycles}
 use Rattle.history.specs.Events.{isReset, isEmptying, makesRecord, restarts, empties, howMany, EndsMaking, EventOf, Between}
 use Rattle.history.proofs.Notes.{zero-invalid, numbered-zeros, moved-up}
 use Rattle.history.proofs.Allowed.{Allowed, keeps, pushes, clears, starts, allowed}
@@ -259,7 +259,7 @@ passed-between m before middle none =
     ∙ ap (λ (k : Machine). history m before .clock + acceptedCycles k middle) machine
 
 -- The newest and the oldest record of a stretch are valid.
-ends-valid : (list : List Record) (i n : ℕ) → stretch list i n ≡ true → (isValid (numbered i list) ≡ true) × (isValid (numbered (i + n) list) ≡ true)
+pub ends-valid : (list : List Record) (i n : ℕ) → stretch list i n ≡ true → (isValid (numbered i list) ≡ true) × (isValid (numbered (i + n) list) ≡ true)
 unfolding stretch
 ends-valid list i zero h = (h, rw add-zero h)
 ends-valid list i (suc n) h =
@@ -268,10 +268,11 @@ ends-valid list i (suc n) h =
     (search each, rw up (rest .1))
 
 -- Demand 3, by the operations alone. In any sequence from a reset, over the neighbouring records i to i + n that a read then shows, all
--- valid and all but the oldest with a known, not exceeded count: S is near the cycles of the accepted operations after the oldest's event
--- up to and including the newest's.
+-- valid and all but the oldest with a known, not exceeded count: the cycles of the accepted operations after the oldest's event up to and
+-- including the newest's are near S and not above U.
 pub demand-3-exact : (m : Machine) (list : List Timed) → FromReset m list → (i n : ℕ) → stretch (shown (run m list)) i n ≡ true
-    → (b : Between m list i n) × Near (S (shown (run m list)) i n) (acceptedCycles (run m (b .before)) (b .middle))
+    → (b : Between m list i n)
+    × Within (S (shown (run m list)) i n) (U (shown (run m list)) i n) (acceptedCycles (run m (b .before)) (b .middle))
 demand-3-exact m list from i n h =
     let (newest, oldest) = ends-valid (shown (run m list)) i n h in
     let x = traced from i n newest oldest in

@@ -7,3 +7,4 @@ pub mod Exact
 pub mod Unknown
 pub mod ClosedRun
 pub mod Sound
+pub mod Summed

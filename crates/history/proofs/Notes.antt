@@ -9,9 +9,9 @@ use lib.ListN.{take, replicate, length-take, List·getD-eq-default}
 use lib.Seq.{getD-take}
 use borrow.Author.Tests.{eqb-true}
 use Rattle.bits.proofs.Cases.{below-or-not}
-use Rattle.answer.specs.Answer.{returned}
 use Rattle.count.specs.declared.Decoded.{Decoded}
-use Rattle.count.specs.Count.{largestCount, encoded, countOf, decoded, decodedAnswer}
+use Rattle.count.specs.declared.Decoded.the-variants.{Known}
+use Rattle.count.specs.Count.{largestCount, encoded, smallestOf, largestOf, decoded, spreadOf}
 use Rattle.count.proofs.Laws.{encoded-fits, above, decoded-exceeded, rounding}
 use Rattle.state.specs.Sound.{cap}
 use Rattle.state.specs.declared.State.{State}
@@ -20,7 +20,7 @@ use Rattle.room.specs.declared.Record.{Record}
 use Rattle.room.specs.Room.{zeroRecord, numbered}
 use Rattle.event.specs.declared.Event.{Event}
 use Rattle.event.specs.Event.{packed, countUnknown, BRBINF, recordOf}
-use Rattle.history.specs.History.{Note, note, CCU, CC, isValid, isKnown, isCounted, count, Near}
+use Rattle.history.specs.History.{Note, note, CCU, CC, isValid, isKnown, isCounted, spread, Near, Within}
 use Rattle.bits.proofs.Each.{each}
 
 -- ---- one record
@@ -41,39 +41,40 @@ pub takes : (s : State) (r : Running) (e : Event) → Takes (r .count) (recordOf
 unfolding recordOf BRBINF
 takes s r e = taken (recordOf s r e) (countUnknown s r) (r .count) _ _ _ _ refl
 
--- Where the count is the exact difference d but for its cap, a counted record is near d.
-near-taken : (r : Record) (n d : ℕ) → Takes n r → n ≡ min d cap → isCounted r ≡ true → Near (count r) d
-near-taken r n d t e h =
+-- Where the count is the exact difference d but for its cap, d is near a counted record's count and not above its upper end.
+within-taken : (r : Record) (n d : ℕ) → Takes n r → n ≡ min d cap → isCounted r ≡ true → Within (spread r .low) (spread r .high) d
+within-taken r n d t e h =
     let same : CC r ≡ encoded n = t h in
     let known : isKnown (decoded (CC r)) ≡ true = counted r h .1 in
     ⊎-elim
     (λ (g : largestCount < n). let z : _≡_ {A = ℕ} 0 1 = cc (ap isKnown (ap decoded (same ∙ above n g) ∙ decoded-exceeded)) in absurd (omega arith))
     (λ (g : n ≤ largestCount).
-    let (v, is, low, near) = rounding n g in
-    let value : count r ≡ v = ap (λ (d : Decoded). returned (decodedAnswer d) .value) (ap decoded same ∙ is) in
-    rw value (omega arith))
+    let (low, high, is, from, to, near) = rounding n g in
+    let ends : spread r ≡ spreadOf (Known low high) = ap spreadOf (ap decoded same ∙ is) in
+    rw ends (record { near = omega arith; under = omega arith }))
     (below-or-not largestCount n)
 
 -- ---- times
 
 -- The times fall along the notes, none is past the clock, the running count is the time since the newest but for its cap,
--- and each counted record is near the difference to the next older time.
+-- and of each counted record the difference to the next older time is near the count and not above its upper end.
 pub record Timely (clock running : ℕ) (notes : List Note) : Type 0 where
   pub behind : note 0 notes .time ≤ clock
   pub exact : running ≡ min (clock - note 0 notes .time) cap
   pub falling : (i : ℕ) → note (suc i) notes .time ≤ note i notes .time
-  pub near : (i : ℕ) → isCounted (note i notes .made) ≡ true → Near (count (note i notes .made)) (note i notes .time - note (suc i) notes .time)
+  pub within : (i : ℕ) → isCounted (note i notes .made) ≡ true
+      → Within (spread (note i notes .made) .low) (spread (note i notes .made) .high) (note i notes .time - note (suc i) notes .time)
 
 pub waited : {clock running : ℕ} {notes : List Note} (cycles : ℕ) → Timely clock running notes → Timely (clock + cycles) (min (running + cycles) cap) notes
-waited cycles t = record { behind = omega arith; exact = omega arith; falling = t .falling; near = t .near }
+waited cycles t = record { behind = omega arith; exact = omega arith; falling = t .falling; within = t .within }
 
 pub began : Timely 0 0 []
-unfolding decoded countOf
-began = record { behind = omega arith; exact = refl; falling = λ i. omega arith; near = λ i _. omega arith }
+unfolding decoded smallestOf largestOf
+began = record { behind = omega arith; exact = refl; falling = λ i. omega arith; within = λ i _. record { near = omega arith; under = omega arith } }
 
 pub made : {now running : ℕ} {notes : List Note} {new : Record} → Takes running new → Timely now running notes
     → Timely now 0 (record { time = now; made = new } ∷ notes)
-made {now} {running} {notes} {new} takes t = record { behind = omega arith; exact = omega arith; falling = falling; near = near }
+made {now} {running} {notes} {new} takes t = record { behind = omega arith; exact = omega arith; falling = falling; within = within }
   where
     all : List Note
     all = record { time = now; made = new } ∷ notes
@@ -82,9 +83,10 @@ made {now} {running} {notes} {new} takes t = record { behind = omega arith; exac
     falling zero = t .behind
     falling (suc i) = t .falling i
 
-    near : (i : ℕ) → isCounted (note i all .made) ≡ true → Near (count (note i all .made)) (note i all .time - note i notes .time)
-    near zero = near-taken new running (now - note 0 notes .time) takes (t .exact)
-    near (suc i) = t .near i
+    within : (i : ℕ) → isCounted (note i all .made) ≡ true
+        → Within (spread (note i all .made) .low) (spread (note i all .made) .high) (note i all .time - note i notes .time)
+    within zero = within-taken new running (now - note 0 notes .time) takes (t .exact)
+    within (suc i) = t .within i
 
 -- ---- places
 

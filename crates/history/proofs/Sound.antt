@@ -175,13 +175,17 @@ largest size h =
     go (inr a) (inr b) (inr c) (inr d) (inl e) = is 0 (omega arith) e
     go (inr a) (inr b) (inr c) (inr d) (inr e) = never (cc (rw (a, b, c, d, e) at h))
 
+-- A sound state has at most 64 records.
+pub largest-size : (s : State) → sound s ≡ true → s .size ≤ 64
+largest-size s h = largest (s .size) (lines s h .0 .size)
+
 size-bound : (s : State) (o : Operation) → sound s ≡ true → outsideList o ≡ false → changed s o .size ≤ 64
 unfolding outsideList changed
 size-bound s o h listed = go (resets o) listed
   where
     go : {o : Operation} → Resets o → outsideList o ≡ false → changed s o .size ≤ 64
     go (is-reset {size = size}) l = largest size (sized size (search each))
-    go (no-reset {o} is) l = rw (size-kept s o is) (largest (s .size) (lines s h .0 .size))
+    go (no-reset {o} is) l = rw (size-kept s o is) (largest-size s h)
 
 not-six : (a b c d e f : Bool) → (d ≡ false → f ≡ false)
     → firstThat ((7, a) ∷ (2, b) ∷ (3, c) ∷ (4, d) ∷ (5, e) ∷ (6, f) ∷ []) ≢ 6

@@ -1,17 +1,17 @@
 -- Sequences of operations, and the words of demand 3: over neighbouring records that are there, all but the oldest of them with
 -- a known count, the decoded counts S and the exact time T from the oldest's event to the newest's differ by at most one part
--- in 256 of S, and S is not above T.
+-- in 256 of S, S is not above T, and T is not above the upper ends U of the counts (document 02, "Four").
 use Prim.Native.Nat.{ℕ, zero, suc, _+_, _*_, _-_, _≤_}
 use mathlib.Core.Bool.{Bool, true, false, cond, _&&_, not}
 use mathlib.Core.List.{List, [], _∷_}
 use mathlib.Core.Path.{_≡_}
 use lib.Dec.{eqb}
 use lib.ListN.{length, getD}
-use Rattle.answer.specs.Answer.{returned}
 use Rattle.bits.specs.Bits.{part}
 use Rattle.count.specs.declared.Decoded.{Decoded}
 use Rattle.count.specs.declared.Decoded.the-variants.{Known, Exceeded, Refused}
-use Rattle.count.specs.Count.{decoded, decodedAnswer}
+use Rattle.count.specs.declared.Spread.{Spread}
+use Rattle.count.specs.Count.{decoded, spreadOf}
 use Rattle.state.specs.declared.State.{State}
 use Rattle.state.specs.Named.{fresh}
 use Rattle.room.specs.declared.Record.{Record}
@@ -146,7 +146,7 @@ isValid r = not (eqb (VALID r) 0)
 
 -- Decoding gave a count.
 abbrev pub isKnown : Decoded → Bool
-isKnown (Known n) = true
+isKnown (Known low high) = true
 isKnown Exceeded = false
 isKnown Refused = false
 
@@ -154,19 +154,32 @@ isKnown Refused = false
 abbrev pub isCounted : Record → Bool
 isCounted r = eqb (CCU r) 0 && isKnown (decoded (CC r))
 
--- That count, decoded.
-abbrev pub count : Record → ℕ
-count r = returned (decodedAnswer (decoded (CC r))) .value
+-- That count, decoded: its two ends, as `brb_count_decode` answers them.
+abbrev pub spread : Record → Spread
+spread r = spreadOf (decoded (CC r))
 
 -- The records i to i + n of a list are all valid, and all but the oldest, which is i + n, are counted.
 unfoldable pub stretch : List Record → ℕ → ℕ → Bool
 stretch list i zero = isValid (numbered i list)
 stretch list i (suc n) = isValid (numbered i list) && isCounted (numbered i list) && stretch list (suc i) n
 
--- S: the decoded counts of the records i to i + n, the oldest left out, added up.
-unfoldable pub S : List Record → ℕ → ℕ → ℕ
-S list i zero = 0
-S list i (suc n) = count (numbered i list) + S list (suc i) n
+-- One end of the decoded counts of the records i to i + n, the oldest left out, added up.
+unfoldable pub endSum : (Spread → ℕ) → List Record → ℕ → ℕ → ℕ
+endSum end list i zero = 0
+endSum end list i (suc n) = end (spread (numbered i list)) + endSum end list (suc i) n
+
+-- S: the decoded counts added up, each its smallest.
+abbrev pub S : List Record → ℕ → ℕ → ℕ
+S list i n = endSum (λ x. x .low) list i n
+
+-- U: their upper ends added up.
+abbrev pub U : List Record → ℕ → ℕ → ℕ
+U list i n = endSum (λ x. x .high) list i n
+
+-- The CC fields that a host adds up for S and U: those of the records i to i + n, the oldest left out.
+unfoldable pub encodings : List Record → ℕ → ℕ → List ℕ
+encodings list i zero = []
+encodings list i (suc n) = CC (numbered i list) ∷ encodings list (suc i) n
 
 -- T: the time from the event of record i + n to that of record i, by their notes.
 abbrev pub T : List Note → ℕ → ℕ → ℕ
@@ -184,3 +197,8 @@ justMade x = note 0 (x .notes) .time ≡ x .clock
 -- Demand 3's two inequalities.
 abbrev pub Near : ℕ → ℕ → Type 0
 Near s t = (s ≤ t) × (256 * (t - s) ≤ s)
+
+-- And its third part: the time is near S and not above U.
+pub record Within (s u t : ℕ) : Type 0 where
+  pub near : Near s t
+  pub under : t ≤ u

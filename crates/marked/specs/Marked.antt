@@ -8,7 +8,7 @@ use Rattle.count.specs.declared.Decoded.the-variants.{Known}
 use Rattle.recording.specs.declared.Numbers.{Numbers}
 use Rattle.filter.specs.Filter.{branchTypes, filterBit, passesFilter}
 use Rattle.text.specs.Text.{bytesOfText, digits, decimalCount, decimal}
-use Rattle.count.specs.Count.{bitLength, exponent, mantissa, encoded, countOf, decoded}
+use Rattle.count.specs.Count.{bitLength, exponent, mantissa, encoded, smallestOf, largestOf, decoded}
 use Rattle.number.specs.Number.{numberIn, numberAt, bytesIn, bytesOf}
 use Rattle.state.specs.Sound.{unavailable, sound}
 use Rattle.state.specs.Words.{judged}
@@ -30,7 +30,7 @@ use Rattle.line.specs.Line.{lineOf, replayFrom, replayOf}
 pub data Case : Type 0 where
   -- a count, and its CC
   Encodes : ℕ → ℕ → Case
-  -- a CC, and what it says
+  -- a CC, and what it says: P8's count is the smallest of the two
   Decodes : ℕ → Decoded → Case
   -- a filter word, and the branch types that it records
   Records : ℕ → List ℕ → Case
@@ -76,7 +76,7 @@ cases =
     ∷ Encodes 513 0x200
     ∷ Encodes 1048575 0xCFF
     ∷ Encodes 1048576 0x3FFF
-    ∷ Decodes 0xCFF (Known 1046528)
+    ∷ Decodes 0xCFF (Known 1046528 1048575)
     ∷ Records 0 []
     ∷ Records 0x10000 branchTypes
     ∷ Records 0x30000 (1 ∷ 2 ∷ 3 ∷ 5 ∷ 8 ∷ [])
@@ -85,5 +85,5 @@ cases =
 
 -- The fact: what the definitions make of each input is what must come out.
 pub marked : map computed cases ≡ cases
-unfolding bitLength exponent mantissa encoded countOf decoded numberIn numberAt bytesIn bytesOf unavailable sound judged records numbered pushed cleared roomAfter enabled prohibited filterBit passesFilter controlled valid countUnknown MPRED BRBINF recordOf becomesRecord nBit trapped2 outcome readOutcome writeOutcome iallOutcome shownRecord shownNumber registerValue registerWritten operationOf unknownCode notReset outsideList wrongLevel roomTooShort refusalOf changed occasion passed effectOf answerOf accepted stepOf fieldCount numbersAt operationAt bytesOfAll operationBytes recordingBytes recordedStep digits decimalCount decimal lineOf replayFrom replayOf
+unfolding bitLength exponent mantissa encoded smallestOf largestOf decoded numberIn numberAt bytesIn bytesOf unavailable sound judged records numbered pushed cleared roomAfter enabled prohibited filterBit passesFilter controlled valid countUnknown MPRED BRBINF recordOf becomesRecord nBit trapped2 outcome readOutcome writeOutcome iallOutcome shownRecord shownNumber registerValue registerWritten operationOf unknownCode notReset outsideList wrongLevel roomTooShort refusalOf changed occasion passed effectOf answerOf accepted stepOf fieldCount numbersAt operationAt bytesOfAll operationBytes recordingBytes recordedStep digits decimalCount decimal lineOf replayFrom replayOf
 marked = refl
