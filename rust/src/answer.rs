@@ -46,6 +46,31 @@ pub enum Outcome {
     Refused(u64),
 }
 
+/// The smallest and the largest count that an encoding may stand for, or a run of encodings together: `struct brb_spread` of
+/// `include/brb.h`.
+#[repr(C)]
+#[derive(Clone, Copy, Debug, PartialEq, Eq)]
+pub struct Spread {
+    /// 0, or the refusal with 0 in all else: 4 where something is no encoding, 9 where a sum passes 2^64 - 1.
+    pub number: u64,
+    /// The smallest count.
+    pub low: u64,
+    /// The largest count; 0 where there is none.
+    pub high: u64,
+    /// 1 where there is a largest count, 0 where a count exceeded the counter, so that there is no upper end.
+    pub bounded: u64,
+}
+
+impl Spread {
+    /// Both ends by name, the upper one none where a count exceeded the counter; or the number of the refusal.
+    pub fn ends(self) -> Result<(u64, Option<u64>), u64> {
+        match self {
+            Spread { number: DONE, low, high, bounded } => Ok((low, (bounded == 1).then_some(high))),
+            Spread { number, .. } => Err(number),
+        }
+    }
+}
+
 /// What the library answers to one operation of a recording: `struct brb_recorded` of `include/brb.h`.
 #[repr(C)]
 #[derive(Clone, Copy, Debug, PartialEq, Eq)]

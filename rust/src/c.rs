@@ -3,7 +3,7 @@
 //! Each pointer comes with the length of what is lent, and areas of one call do not overlap; the library reads and writes
 //! nothing outside them and keeps nothing after the call.
 
-use crate::{Answer, Recorded};
+use crate::{Answer, Recorded, Spread};
 
 extern "C" {
     pub fn brb_step(
@@ -27,7 +27,8 @@ extern "C" {
         register: u64,
     ) -> Answer;
     pub fn brb_count_encode(count: u64) -> u64;
-    pub fn brb_count_decode(cc: u64) -> Answer;
+    pub fn brb_count_decode(cc: u64) -> Spread;
+    pub fn brb_count_sum(cc: *const u64, count: usize) -> Spread;
     pub fn brb_bank_inf(room: *const u64, room_numbers: usize, size: u64, bank: u64, m: u64) -> Answer;
     pub fn brb_bank_source(room: *const u64, room_numbers: usize, size: u64, bank: u64, m: u64) -> Answer;
     pub fn brb_bank_target(room: *const u64, room_numbers: usize, size: u64, bank: u64, m: u64) -> Answer;

@@ -12,13 +12,13 @@ const fn field(high: u32, low: u32) -> u64 {
 }
 
 /// The first part of the version, which grows where a host has to change.
-pub const VERSION_MAJOR: u64 = 0;
+pub const VERSION_MAJOR: u64 = 1;
 /// The second part of the version, which grows where something is added or an answer becomes another.
-pub const VERSION_MINOR: u64 = 3;
+pub const VERSION_MINOR: u64 = 0;
 /// The third part of the version.
 pub const VERSION_PATCH: u64 = 0;
 /// The version as text.
-pub const VERSION: &str = "0.3.0";
+pub const VERSION: &str = "1.0.0";
 
 /// Code of a reset.
 pub const CODE_RESET: u64 = 0;
@@ -60,6 +60,8 @@ pub const REFUSED_LEVEL: u64 = 5;
 pub const REFUSED_ROOM: u64 = 6;
 /// Refused: the state is not sound, or too short.
 pub const REFUSED_STATE: u64 = 7;
+/// Refused: a sum of counts passes 2^64 - 1. [`count_sum`](crate::count_sum) alone gives it.
+pub const REFUSED_SUM: u64 = 9;
 
 /// BRBIDR0_EL1, which tells the buffer's size.
 pub const REGISTER_BRBIDR0_EL1: u64 = 0;
@@ -302,7 +304,8 @@ pub const VALID_FULL: u64 = 3;
 
 /// The largest known count.
 pub const COUNT_LARGEST: u64 = 1_048_575;
-/// What the running count stops at, and what [`count_decode`](crate::count_decode) answers for a count that exceeded.
+/// What the running count stops at: the smallest count that exceeded, which is `low` of
+/// [`count_decode`](crate::count_decode) for one that did.
 pub const COUNT_EXCEEDED: u64 = 1_048_576;
 /// The CC of a count that exceeded.
 pub const CC_EXCEEDED: u64 = 0x3FFF;

@@ -9,7 +9,7 @@ use crate::{decoded, inf_cc_of, inf_ccu_of, inf_level_of, inf_mpred_of, inf_type
 ///
 /// let inf = Inf::of(0x0000_012c_0000_0843);
 /// assert_eq!((inf.valid, inf.kind, inf.level, inf.mispredicted), (VALID_FULL, TYPE_CONDDIR, 1, false));
-/// assert_eq!(inf.count(), Some(Count::Known(300)));
+/// assert_eq!(inf.count(), Some(Count::Known { low: 300, high: 300 }));
 /// assert_eq!(Inf::of(0x0000_4000_0000_0043).count(), None);
 /// ```
 #[derive(Clone, Copy, Debug, PartialEq, Eq)]
@@ -41,7 +41,7 @@ impl Inf {
         }
     }
 
-    /// The cycles between the record before and this one; none where they are unknown.
+    /// The spread of the cycles between the record before and this one; none where they are unknown.
     pub fn count(self) -> Option<Count> {
         if self.unknown {
             None

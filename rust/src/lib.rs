@@ -6,7 +6,8 @@
 //! [`Recorder`] holds the two together, owned or borrowed; [`step`] and [`read`] take them from anywhere. Recordings are
 //! read and written with [`recording_read`] and [`recording_write`], and stepped along with [`step_recorded`], one operation
 //! a call, or with [`batch()`], a whole run of them in one call. [`bank_inf`], [`bank_source`] and [`bank_target`] look at
-//! records without an operation. [`Inf`] takes BRBINF apart.
+//! records without an operation. [`Inf`] takes BRBINF apart. [`decoded`] says between which two counts the count of a
+//! record lies, and [`count_sum`] the same of the sum of many.
 //!
 //! Building needs the archive `libbrb.a`: the environment variable `BRB_ARCHIVE` names the folder that holds it, as an
 //! absolute path. The archive is for Linux on x86-64.
@@ -27,7 +28,7 @@
 //! assert_eq!(recorder.records().count(), 8);
 //! let [inf, source, target] = recorder.records().next().unwrap();
 //! assert_eq!((source, target), (0x1010, 0x1000));
-//! assert_eq!(Inf::of(inf).count(), Some(Count::Known(300)));
+//! assert_eq!(Inf::of(inf).count(), Some(Count::Known { low: 300, high: 300 }));
 //! ```
 #![deny(unsafe_op_in_unsafe_fn)]
 #![deny(missing_docs)]
@@ -44,11 +45,11 @@ mod recorder;
 mod recording;
 mod step;
 
-pub use answer::{Answer, Outcome, Recorded};
+pub use answer::{Answer, Outcome, Recorded, Spread};
 pub use bank::{bank_inf, bank_source, bank_target};
 pub use batch::batch;
 pub use constants::*;
-pub use count::{count_decode, count_encode, decoded, Count};
+pub use count::{count_decode, count_encode, count_sum, decoded, Count};
 pub use inf::Inf;
 pub use operation::Operation;
 pub use recorder::Recorder;

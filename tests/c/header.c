@@ -11,11 +11,14 @@
 #include "check.h"
 
 /* Constants that fit an int can be asked by the preprocessor. */
-#if BRB_VERSION_MAJOR != 0 || BRB_STATE_NUMBERS != BRB_STATE_UNKNOWN + 1 || BRB_LARGEST_ROOM != 192
+#if BRB_VERSION_MAJOR != 1 || BRB_STATE_NUMBERS != BRB_STATE_UNKNOWN + 1 || BRB_LARGEST_ROOM != 192
 #error "brb.h: a constant is not what it was"
 #endif
 #if BRB_ANSWER_NUMBERS != 2 || BRB_BATCH_NUMBERS(0) != 1 || BRB_BATCH_NUMBERS(59) != 60
 #error "brb.h: a constant of batches is not what it was"
+#endif
+#if BRB_REFUSED_SUM != 9 || BRB_COUNT_EXCEEDED != BRB_COUNT_LARGEST + 1 || BRB_CC_EXCEEDED != 0x3FFF
+#error "brb.h: a constant of counts is not what it was"
 #endif
 
 static void masks(void) {
@@ -45,6 +48,7 @@ static void fields(void) {
 static void answers(void) {
     uint64_t number;
     for (number = 1; number <= 7; number++) check(BRB_IS_REFUSED(number), "1 to 7 are refusals");
+    check(BRB_IS_REFUSED(BRB_REFUSED_SUM), "9 is a refusal");
     check(!BRB_IS_REFUSED(BRB_DONE) && !BRB_IS_REFUSED(BRB_UNDEFINED), "0 and 100 are none");
     check(!BRB_IS_REFUSED(BRB_TRAP2) && !BRB_IS_REFUSED(BRB_TRAP3), "102 and 103 are none");
     check(strlen(BRB_VERSION) >= 5, "the version as text");
@@ -60,16 +64,33 @@ static void batches(void) {
     check(BRB_BATCH_NUMBERS(BRB_OPERATION_BYTES) > BRB_ANSWER_NUMBERS, "numbers for the longest operation's answer");
 }
 
+static void counts(void) {
+    struct brb_spread spread;
+    uint64_t cc[3];
+    cc[0] = brb_count_encode(BRB_COUNT_LARGEST);
+    cc[1] = brb_count_encode(BRB_COUNT_EXCEEDED);
+    cc[2] = BRB_CC_EXCEEDED - 1;
+    check(cc[0] == 0xCFF && cc[1] == BRB_CC_EXCEEDED, "the largest count, and one that exceeded");
+    spread = brb_count_decode(cc[0]);
+    check(spread.number == BRB_DONE && spread.bounded == 1, "the largest count has an upper end");
+    check(spread.low < spread.high && spread.high == BRB_COUNT_LARGEST, "which it is itself");
+    spread = brb_count_decode(cc[1]);
+    check(spread.number == BRB_DONE && spread.low == BRB_COUNT_EXCEEDED, "the smallest count that exceeded");
+    check(spread.high == 0 && spread.bounded == 0, "which has no upper end");
+    spread = brb_count_sum(cc, 1);
+    check(spread.number == BRB_DONE && spread.high == BRB_COUNT_LARGEST && spread.bounded == 1, "the sum of one");
+    spread = brb_count_sum(cc, 2);
+    check(spread.number == BRB_DONE && spread.high == 0 && spread.bounded == 0, "a sum without an upper end");
+    spread = brb_count_sum(cc, 3);
+    check(BRB_IS_REFUSED(spread.number) && spread.low == 0, "a sum that is refused");
+}
+
 int main(void) {
-    struct brb_answer answer;
     masks();
     fields();
     answers();
     batches();
-    check(brb_count_encode(BRB_COUNT_LARGEST) == 0xCFF, "the largest count");
-    check(brb_count_encode(BRB_COUNT_EXCEEDED) == BRB_CC_EXCEEDED, "a count that exceeded");
-    answer = brb_count_decode(BRB_CC_EXCEEDED);
-    check(answer.number == BRB_DONE && answer.value == BRB_COUNT_EXCEEDED, "it decodes");
+    counts();
     printf("header: %u checks passed, %u failed\n", passed, failed);
     return failed != 0;
 }

@@ -1,4 +1,5 @@
-/* A C host of the library: session S1, each refusal, rooms and states at their bounds, and batches, through include/brb.h.
+/* A C host of the library: session S1, each refusal, rooms and states at their bounds, counts and their sums, and batches,
+ * through include/brb.h.
  *
  * Every lent area is allocated with exactly the numbers that are lent, so that valgrind sees a step past its end. */
 #include "brb.h"
@@ -24,6 +25,13 @@ static uint64_t *numbers(size_t count, uint64_t fill) {
     }
     for (size_t i = 0; i < count; i++) area[i] = fill;
     return area;
+}
+
+/* The numbers of an area, in an area of their own. */
+static uint64_t *copied(const uint64_t *area, size_t count) {
+    uint64_t *copy = numbers(count, 0);
+    if (count) memcpy(copy, area, count * sizeof *copy);
+    return copy;
 }
 
 static struct lent lend(size_t state_numbers, uint64_t state_fill, size_t room_numbers) {
@@ -166,17 +174,62 @@ static void states(void) {
     }
 }
 
+static int is(struct brb_spread spread, uint64_t number, uint64_t low, uint64_t high, uint64_t bounded) {
+    return spread.number == number && spread.low == low && spread.high == high && spread.bounded == bounded;
+}
+
 static void counts(void) {
     static const uint64_t marked[][2] = {{0, 0},           {255, 0xFF},         {256, 0x100},        {511, 0x1FF},
                                          {513, 0x200},     {1048575, 0xCFF},    {1048576, 0x3FFF}};
     for (size_t i = 0; i < sizeof marked / sizeof marked[0]; i++)
         check(brb_count_encode(marked[i][0]) == marked[i][1], "P1 to P7: count to CC");
-    struct brb_answer answer = brb_count_decode(0xCFF);
-    check(answer.number == 0 && answer.value == 1046528, "P8: CC to count");
-    answer = brb_count_decode(0x3FFF);
-    check(answer.number == 0 && answer.value == 1048576, "exceeded");
-    answer = brb_count_decode(0xD00);
-    check(answer.number == 4 && answer.value == 0, "no count has this encoding");
+    check(is(brb_count_decode(0xCFF), 0, 1046528, 1048575, 1), "P8: CC to the smallest and the largest count");
+    check(is(brb_count_decode(0xFF), 0, 255, 255, 1), "E 0: one count");
+    check(is(brb_count_decode(0x200), 0, 512, 513, 1), "E 2: two counts");
+    check(is(brb_count_decode(0x3FFF), 0, 1048576, 0, 0), "exceeded: no upper end");
+    check(is(brb_count_decode(0xD00), 4, 0, 0, 0), "no count has this encoding");
+    check(is(brb_count_decode(UINT64_MAX), 4, 0, 0, 0), "no count has the largest number for its encoding");
+}
+
+/* The sum of these encodings, in an area of their own, which has to stay as it is. */
+static struct brb_spread sum(const uint64_t *cc, size_t count) {
+    uint64_t *area = copied(cc, count);
+    struct brb_spread spread = brb_count_sum(area, count);
+    check(same(area, cc, count), "a sum leaves its encodings as they are");
+    free(area);
+    return spread;
+}
+
+static void sums(void) {
+    static const uint64_t cc[] = {0x7C4, 0x12C, 0x3FFF, 1, 0xD00}, refused[] = {0xD00, 0x7C4, 0x3FFF};
+    check(is(sum(cc, 0), 0, 0, 0, 1), "no encodings: 0, with an upper end");
+    check(is(sum(cc, 1), 0, 28928, 28991, 1), "one encoding: what it decodes to");
+    check(is(sum(cc, 2), 0, 29228, 29291, 1), "0x7C4 and 0x12C");
+    check(is(sum(cc, 3), 0, 29228 + 1048576, 0, 0), "one that exceeded: no upper end");
+    check(is(sum(cc, 4), 0, 29229 + 1048576, 0, 0), "what is behind it is added");
+    check(is(sum(cc, 5), 4, 0, 0, 0), "4: 0xD00 at the end, behind one that exceeded");
+    check(is(sum(refused, 3), 4, 0, 0, 0), "4: 0xD00 at the front, before one that exceeded");
+    check(is(sum(refused, 1), 4, 0, 0, 0), "4: 0xD00 alone");
+    uint64_t *many = numbers(5000, 0xCFF);
+    check(is(sum(many, 5000), 0, UINT64_C(5232640000), UINT64_C(5242875000), 1), "a sum above 2^32");
+    free(many);
+}
+
+/* What the counts of two records say of the 29,288 cycles since the one before them. */
+static void sum_of_records(void) {
+    struct lent l = lend(BRB_STATE_NUMBERS, 0, BRB_ROOM_NUMBERS(8));
+    static const uint64_t operations[][6] = {{0, 0, 8},           {4, 0, 49},            {6, 0, 1, 10},
+                                             {6, 0, 2, 8},        {6, 0, 3, 65536},      {3, 0, 1, 0, 128, 4096},
+                                             {1, 7, 0, 0, 8, 12}, {1, 300, 0, 0, 8, 12}, {1, 28988, 0, 0, 8, 12}};
+    for (size_t i = 0; i < sizeof operations / sizeof operations[0]; i++)
+        answers(&l, operations[i], 0, 0, "three branches that are recorded");
+    check(BRB_INF_CCU_OF(l.room[0]) == 0 && BRB_INF_CCU_OF(l.room[3]) == 0, "two known counts");
+    check(BRB_INF_VALID_OF(l.room[6]) == BRB_VALID_FULL, "the record before them");
+    uint64_t cc[] = {BRB_INF_CC_OF(l.room[0]), BRB_INF_CC_OF(l.room[3])};
+    struct brb_spread spread = sum(cc, 2);
+    check(is(spread, 0, 29228, 29291, 1), "the sum of the two counts");
+    check(spread.low <= 29288 && 29288 <= spread.high, "the cycles lie between its ends");
+    take_back(&l);
 }
 
 /* A run of bytes and the numbers for its answers, lent with their lengths. */
@@ -208,13 +261,6 @@ static void take_back_run(struct run *r) {
 static struct brb_answer batch(struct lent *l, struct run *r) {
     return brb_batch(l->state, l->state_numbers, l->room, l->room_numbers, r->bytes, r->length, r->answers,
                      r->answer_numbers);
-}
-
-/* The numbers of an area, for a comparison after a call. */
-static uint64_t *copied(const uint64_t *area, size_t count) {
-    uint64_t *kept = numbers(count, 0);
-    if (count) memcpy(kept, area, count * sizeof *kept);
-    return kept;
 }
 
 /* A batch of these bytes that must be refused with this number, the value 0, and nothing changed. */
@@ -327,6 +373,8 @@ int main(void) {
     rooms();
     states();
     counts();
+    sums();
+    sum_of_records();
     batch_of_s1();
     batch_states();
     batch_runs();

@@ -42,6 +42,12 @@ static void banks(void) {
     }
 }
 
+static void sums(void) {
+    struct brb_spread spread = brb_count_sum(NULL, 0);
+    check(spread.number == 0 && spread.low == 0, "brb_count_sum: no encodings add up to 0");
+    check(spread.high == 0 && spread.bounded == 1, "brb_count_sum: no encodings have an upper end");
+}
+
 static void recordings(void) {
     static const uint8_t reset[] = {0, 0, 8, 0};
     uint64_t place[BRB_OPERATION_NUMBERS] = {0};
@@ -91,6 +97,7 @@ static void batches(void) {
 int main(void) {
     steps();
     banks();
+    sums();
     recordings();
     recorded();
     batches();

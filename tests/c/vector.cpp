@@ -1,4 +1,4 @@
-// Empty vectors, whose data() may be a null pointer, at every function; and S1's first read on vectors that are not empty.
+// Empty vectors, whose data() may be a null pointer, at every function; and a read and a sum on vectors that are not empty.
 #include "brb.h"
 #include <iostream>
 #include <vector>
@@ -18,6 +18,8 @@ static void empty() {
     uint8_t *b = no_bytes.data();
     check(brb_step(n, none.size(), n, none.size(), BRB_CODE_RESET, 0, 8, 0, 0, 0).number == 7, "brb_step");
     check(brb_read(n, none.size(), n, none.size(), 0, 0).number == 7, "brb_read");
+    const brb_spread sum = brb_count_sum(n, none.size());
+    check(sum.number == BRB_DONE && sum.low == 0 && sum.high == 0 && sum.bounded == 1, "brb_count_sum");
     check(brb_bank_inf(n, none.size(), 8, 0, 0).number == 6, "brb_bank_inf");
     check(brb_bank_source(n, none.size(), 8, 0, 0).number == 6, "brb_bank_source");
     check(brb_bank_target(n, none.size(), 8, 0, 0).number == 6, "brb_bank_target");
@@ -47,6 +49,9 @@ static void in_use() {
     check(answer.number == BRB_DONE && state[BRB_STATE_LEVEL] == BRB_LEVEL_EL3, "a reset");
     answer = brb_read(state.data(), state.size(), room.data(), room.size(), 0, BRB_REGISTER_BRBIDR0_EL1);
     check(answer.number == BRB_DONE && answer.value == BRB_BRBIDR0_EL1(16), "BRBIDR0_EL1");
+    const std::vector<uint64_t> cc(3, 0x7C4);
+    const brb_spread sum = brb_count_sum(cc.data(), cc.size());
+    check(sum.number == BRB_DONE && sum.low == 3 * 28928 && sum.high == 3 * 28991 && sum.bounded == 1, "a sum");
 }
 
 int main() {

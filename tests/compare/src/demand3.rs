@@ -1,13 +1,15 @@
-//! Demand 3 on sequences, by exact bookkeeping that knows nothing of the model: over neighbouring valid records of which
-//! all but the oldest have a known, not exceeded count, the sum S of these counts as decoded and the exact cycles T that
-//! passed from the oldest's event to the newest's are near: S <= T and 256 (T - S) <= S.
+//! Demand 3 on sequences, by exact bookkeeping that knows nothing of the model. Over neighbouring valid records of which all
+//! but the oldest have a known, not exceeded count, S is the sum of the smallest counts that these may be, U that of the
+//! largest, and T the exact cycles that passed from the oldest's event to the newest's. T lies between the two and near the
+//! first: S <= T, 256 (T - S) <= S, and T <= U. The longest stretch from each record is added up by the library too.
 //!
 //! Each event gets addresses that no other has, so that a record itself says which event it came from.
 
 use crate::generate::{Flavour, Generator};
 use crate::shrink::shrink;
 use crate::{Call, Engine, Random, Sequence};
-use brb::Count;
+use brb::{Count, Inf, Spread};
+use std::ops::AddAssign;
 
 /// The first address that is given to an event. Event n has source BASE + 2n and target BASE + 2n + 1.
 const BASE: u64 = 1 << 40;
@@ -50,31 +52,103 @@ impl Bookkeeping {
         self.times.get(usize::try_from(address.checked_sub(BASE)? / 2).ok()?).copied()
     }
 
-    /// How many stretches of the records keep demand 3, or one that does not.
-    fn check(&self, records: &[u64]) -> Result<u64, String> {
-        let records: Vec<&[u64]> = records.chunks_exact(3).collect();
-        let mut stretches = 0;
-        for newest in 0..records.len() {
-            let mut sum = 0u128;
-            for oldest in newest + 1..records.len() {
-                let (Some(count), true) = (counted(records[oldest - 1]), valid(records[oldest]) != 0) else { break };
-                sum += u128::from(count);
-                self.check_stretch(&records, newest, oldest, sum)?;
-                stretches += 1;
+    /// The records' stretches that keep demand 3, or one that does not.
+    fn check(&self, records: &[u64]) -> Result<Kept, String> {
+        let records = records.chunks_exact(3);
+        let cc: Vec<u64> = records.clone().map(|record| brb::inf_cc_of(record[0])).collect();
+        let shown: Vec<Shown> = records.map(|record| self.shown(record)).collect();
+        let mut kept = Kept::default();
+        for newest in 0..shown.len() {
+            let (stretches, sum) = kept.note_from(&shown, newest)?;
+            if stretches > 0 {
+                check_sum(brb::count_sum(&cc[newest..newest + stretches]), sum)
+                    .map_err(|how| format!("records {newest} to {}: {how}", newest + stretches))?;
             }
         }
-        Ok(stretches)
+        Ok(kept)
     }
 
-    fn check_stretch(&self, records: &[&[u64]], newest: usize, oldest: usize, sum: u128) -> Result<(), String> {
-        let times = self.time(records[newest]).zip(self.time(records[oldest]));
-        let (end, start) = times.ok_or(format!("records {newest} to {oldest}: one has no event's address"))?;
-        let passed = end.checked_sub(start).ok_or(format!("records {newest} to {oldest}: the older is younger"))?;
-        if sum <= passed && 256 * (passed - sum) <= sum {
-            return Ok(());
-        }
-        Err(format!("records {newest} to {oldest}: S = {sum}, T = {passed}"))
+    /// What a record says, and when its event happened.
+    fn shown(&self, record: &[u64]) -> Shown {
+        Shown { valid: valid(record) != 0, time: self.time(record), ends: ends(record[0]) }
     }
+}
+
+/// A record, as far as demand 3 speaks of it.
+struct Shown {
+    valid: bool,
+    /// When its event happened; none where it has no event's address.
+    time: Option<u128>,
+    /// The smallest and the largest count that it may have, where it is valid and its count known and not exceeded.
+    ends: Option<(u64, u64)>,
+}
+
+/// S and U.
+#[derive(Clone, Copy, Default)]
+struct Sum {
+    smallest: u128,
+    largest: u128,
+}
+
+/// How many stretches kept demand 3.
+#[derive(Clone, Copy, Debug, Default)]
+pub struct Kept {
+    pub stretches: u64,
+    /// Those of them whose S and U differ.
+    pub spread: u64,
+}
+
+impl Kept {
+    /// Checks and notes the stretches from a newest record on, each one record longer than the one before. Answers how many
+    /// there are, and the sum over the longest.
+    fn note_from(&mut self, shown: &[Shown], newest: usize) -> Result<(usize, Sum), String> {
+        let mut sum = Sum::default();
+        for oldest in newest + 1..shown.len() {
+            let (Some((smallest, largest)), true) = (shown[oldest - 1].ends, shown[oldest].valid) else {
+                return Ok((oldest - 1 - newest, sum));
+            };
+            sum.smallest += u128::from(smallest);
+            sum.largest += u128::from(largest);
+            check_stretch(&shown[newest], &shown[oldest], sum)
+                .map_err(|how| format!("records {newest} to {oldest}: {how}"))?;
+            self.stretches += 1;
+            self.spread += u64::from(sum.smallest < sum.largest);
+        }
+        Ok((shown.len() - 1 - newest, sum))
+    }
+}
+
+impl AddAssign for Kept {
+    fn add_assign(&mut self, more: Kept) {
+        self.stretches += more.stretches;
+        self.spread += more.spread;
+    }
+}
+
+/// The three parts of demand 3, of the stretch between two records.
+fn check_stretch(newest: &Shown, oldest: &Shown, sum: Sum) -> Result<(), String> {
+    let (end, start) = newest.time.zip(oldest.time).ok_or("one has no event's address")?;
+    let passed = end.checked_sub(start).ok_or("the older is younger")?;
+    let Sum { smallest, largest } = sum;
+    let broken = if passed < smallest {
+        "T is below S"
+    } else if 256 * (passed - smallest) > smallest {
+        "T is more than one part in 256 above S"
+    } else if passed > largest {
+        "T is above U"
+    } else {
+        return Ok(());
+    };
+    Err(format!("{broken}: S = {smallest}, T = {passed}, U = {largest}"))
+}
+
+/// What the library adds up has the same two ends.
+fn check_sum(spread: Spread, sum: Sum) -> Result<(), String> {
+    let Spread { number, low, high, bounded } = spread;
+    if (number, bounded) == (0, 1) && (u128::from(low), u128::from(high)) == (sum.smallest, sum.largest) {
+        return Ok(());
+    }
+    Err(format!("S = {}, U = {}, and the library adds up to {spread:?}", sum.smallest, sum.largest))
 }
 
 /// BRBINF's VALID.
@@ -82,30 +156,30 @@ fn valid(record: &[u64]) -> u64 {
     record[0] & 3
 }
 
-/// A valid record's known and not exceeded count.
-fn counted(record: &[u64]) -> Option<u64> {
-    let known = valid(record) != 0 && record[0] >> 46 & 1 == 0;
-    match brb::decoded(record[0] >> 32 & 0x3FFF) {
-        Some(Count::Known(count)) if known => Some(count),
+/// The ends of a valid record's known and not exceeded count.
+fn ends(inf: u64) -> Option<(u64, u64)> {
+    let inf = Inf::of(inf);
+    match inf.count() {
+        Some(Count::Known { low, high }) if inf.valid != 0 => Some((low, high)),
         _ => None,
     }
 }
 
 /// Runs a sequence's operations, which `next` makes, and answers how many stretches kept demand 3.
-fn run(engine: &dyn Engine, room: usize, length: usize, mut next: impl FnMut(&[u64]) -> Call) -> Result<u64, String> {
+fn run(engine: &dyn Engine, room: usize, length: usize, mut next: impl FnMut(&[u64]) -> Call) -> Result<Kept, String> {
     let mut lent = Sequence::fresh(room);
     let mut books = Bookkeeping::default();
-    let mut stretches = 0;
+    let mut kept = Kept::default();
     for place in 1..=length {
         let call = books.tagged(next(&lent.state[..model::State::NUMBERS]));
         let (number, _) = engine.step(&mut lent.state, &mut lent.room, call);
         books.note(call, number);
         if place % INTERVAL == 0 || place == length {
             let records = 3 * lent.state[1] as usize;
-            stretches += books.check(&lent.room[..records])?;
+            kept += books.check(&lent.room[..records])?;
         }
     }
-    Ok(stretches)
+    Ok(kept)
 }
 
 /// How a sequence breaks demand 3, if it does.
@@ -117,8 +191,8 @@ pub fn broken(engine: &dyn Engine, sequence: &Sequence) -> Option<String> {
 
 /// Random sequences, until at least so many operations were run: how many stretches kept demand 3, or a shrunk
 /// sequence that breaks it, and how.
-pub fn explore(engine: &dyn Engine, random: &mut Random, operations: u64) -> Result<u64, (Sequence, String)> {
-    let (mut done, mut stretches) = (0, 0);
+pub fn explore(engine: &dyn Engine, random: &mut Random, operations: u64) -> Result<Kept, (Sequence, String)> {
+    let (mut done, mut kept) = (0, Kept::default());
     while done < operations {
         let length = 1 << (5 + random.below(6));
         let flavour = random.one_of(&[Flavour::Recording, Flavour::Recording, Flavour::Boundary, Flavour::Roaming]);
@@ -130,12 +204,12 @@ pub fn explore(engine: &dyn Engine, random: &mut Random, operations: u64) -> Res
             call
         };
         match run(engine, 192, length, next) {
-            Ok(kept) => stretches += kept,
+            Ok(more) => kept += more,
             Err(_) => return Err(smallest(engine, Sequence { room: 192, calls })),
         }
         done += length as u64;
     }
-    Ok(stretches)
+    Ok(kept)
 }
 
 fn smallest(engine: &dyn Engine, sequence: Sequence) -> (Sequence, String) {

@@ -1,6 +1,7 @@
 //! The proved library and the Rust model beside each other: every answer, every state number and every room number is
 //! compared, on sequences from a fresh state and on single calls with any state and room. [`recording`] does the same with
-//! recordings, [`batch`] with runs of recorded operations in one call, and [`programs`] runs the programs of `target/bin`.
+//! recordings, [`batch`] with runs of recorded operations in one call, [`sums`] with counts added up by their encodings, and
+//! [`programs`] runs the programs of `target/bin`.
 //!
 //! A case that disagrees is shrunk ([`shrink`]) and printed as numbers in document 01's written form.
 
@@ -19,6 +20,7 @@ pub mod shares;
 pub mod shrink;
 pub mod since;
 pub mod single;
+pub mod sums;
 
 pub use call::Call;
 pub use engine::{Engine, Library, Modelled};

@@ -1,6 +1,7 @@
 //! The library and the model agree, and the library keeps demand 3. `BRB_SEED` repeats a run.
 
 use compare::seed::{self, say};
+use compare::sums::Counting;
 use compare::{demand3, run, Engine, Library, Modelled, Random, Shares};
 use model::Document01;
 
@@ -44,9 +45,11 @@ fn single_calls_on_any_state() {
 fn demand_3_by_exact_bookkeeping() {
     let seed = seed::of_test("demand 3", seed::from_clock);
     match demand3::explore(&Library, &mut Random::new(seed), DEMAND_3_OPERATIONS) {
-        Ok(stretches) => {
+        Ok(demand3::Kept { stretches, spread }) => {
             say(&format!("demand 3: {DEMAND_3_OPERATIONS} operations, {stretches} stretches of records kept it"));
-            assert!(stretches >= LEAST, "only {stretches} stretches of counted records");
+            say(&format!("demand 3: the sums of {spread} of these stretches have two ends that differ"));
+            let exact = stretches - spread;
+            assert!(spread >= LEAST && exact >= LEAST, "only {spread} with two ends that differ, {exact} without");
         }
         Err((sequence, how)) => panic!("seed {seed}: demand 3 is broken: {how}\n  {sequence}"),
     }
@@ -61,12 +64,6 @@ fn every_count_and_encoding() {
         assert_eq!(brb::count_encode(count), model::count::encode(count), "count {count}");
     }
     for cc in (0..0x2_0000).chain(beyond) {
-        let expected = match model::count::decode(cc) {
-            Some(model::count::Count::Known(count)) => (0, count),
-            Some(model::count::Count::Exceeded) => (0, 1_048_576),
-            None => (4, 0),
-        };
-        let answer = brb::count_decode(cc);
-        assert_eq!((answer.number, answer.value), expected, "encoding {cc:#x}");
+        assert_eq!(Library.decode(cc), Modelled(Document01).decode(cc), "encoding {cc:#x}");
     }
 }

@@ -281,6 +281,12 @@ planted! {
             count::encode(count.min(count::LARGEST))
         }
     })
+    ("a count with E 1 loses its last bit", LastBitLost {
+        fn encode(&self, count: u64) -> u64 {
+            let lost = u64::from((256..512).contains(&count));
+            count::encode(count & !lost)
+        }
+    })
     ("BRB IALL restarts the count", IallRestarts {
         fn invalidate_all(&self, state: &mut State, room: &mut [u64]) {
             Document01.invalidate_all(state, room);
@@ -456,21 +462,33 @@ fn an_error_in_a_full_buffer_is_found() {
 #[test]
 fn demand_3_fails_where_counts_are_wrong() {
     let seed = seed::of_test("planted errors of demand 3", || SEED);
-    let wrong: [(&str, &dyn Engine); 6] = [
+    let wrong: [(&str, &dyn Engine); 7] = [
         ("counts are rounded to nearest", &Modelled(RoundedToNearest)),
         ("a refused operation's cycles count", &Modelled(RefusedCyclesCount)),
         ("accesses that are not performed pass no cycles", &Modelled(NotPerformedNoCycles)),
         ("the running count stops at 1,048,575", &Modelled(StopsEarly)),
         ("the running count wraps at 2^64", &Modelled(Wraps)),
         ("an exceeded count is shown as the largest", &Modelled(ExceededAsLargest)),
+        ("a count with E 1 loses its last bit", &Modelled(LastBitLost)),
     ];
     let mut missed = Vec::new();
     for (words, engine) in wrong {
         match demand3::explore(engine, &mut Random::new(seed), OPERATIONS) {
-            Ok(stretches) => missed.push(format!("{words}: {stretches} stretches kept demand 3")),
+            Ok(kept) => missed.push(format!("{words}: {} stretches kept demand 3", kept.stretches)),
             Err((sequence, how)) => println!("demand 3 with: {words}\n  {how}\n  {sequence}"),
         }
     }
     assert!(missed.is_empty(), "{missed:#?}");
     say(&format!("planted errors of demand 3: all {} found", wrong.len()));
+}
+
+/// What this one takes off is below one part in 256, so that the upper end alone tells it.
+#[test]
+fn demand_3_fails_where_only_the_upper_end_is_passed() {
+    let seed = seed::of_test("planted error of demand 3's third part", || SEED);
+    let kept = demand3::explore(&Modelled(LastBitLost), &mut Random::new(seed), OPERATIONS);
+    let (sequence, how) = kept.expect_err("the error is found");
+    println!("demand 3 with: a count with E 1 loses its last bit\n  {how}\n  {sequence}");
+    assert!(how.contains("T is above U"), "{how}\n  {sequence}");
+    assert!(sequence.calls.len() <= LONGEST, "{sequence}");
 }

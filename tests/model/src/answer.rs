@@ -1,4 +1,4 @@
-/// A refusal, by its number in document 01's table.
+/// A refusal, by its number in document 01's table, or by the number that a request of document 02 gives it.
 #[derive(Clone, Copy, Debug, PartialEq, Eq)]
 pub enum Refusal {
     Malformed = 1,
@@ -8,6 +8,8 @@ pub enum Refusal {
     NotPermitted = 5,
     RoomTooShort = 6,
     NotSound = 7,
+    /// Of a sum of counts alone (`docs/MANUAL.md`, "The spread of a count").
+    SumTooLarge = 9,
 }
 
 /// What an operation is answered.

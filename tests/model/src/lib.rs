@@ -3,9 +3,9 @@
 //! It is written from document 01, the requests of document 02 that have landed, `docs/DECISIONS.md` and, for what is lent,
 //! `include/brb.h` alone, so that the proved library has something independent to be compared with. [`Rules`] holds one
 //! method a rule, in the document's order; [`Document01`] is the document as it stands with these requests. [`Recordings`]
-//! does the same for recordings, [`Batches`] for a run of recorded operations in one call, and [`Lines`] and [`Notation`] for
-//! what the programs `list` and `pack` print and read, which `docs/MANUAL.md` says. A test that wants to know whether an error
-//! would be found overrides one method.
+//! does the same for recordings, [`Batches`] for a run of recorded operations in one call, [`Counts`] for the spread of a
+//! count and the sums of such, and [`Lines`] and [`Notation`] for what the programs `list` and `pack` print and read, which
+//! `docs/MANUAL.md` says. A test that wants to know whether an error would be found overrides one method.
 //!
 //! ```
 //! use model::{Answer, Document01, Rules, State};
@@ -37,6 +37,7 @@ mod state;
 pub use access::{Access, Outcome};
 pub use answer::{Answer, Refusal};
 pub use batch::Batches;
+pub use count::Counts;
 pub use event::{Cause, Event, Record, Shape};
 pub use level::Level;
 pub use lines::Lines;
