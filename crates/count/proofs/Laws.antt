@@ -5,7 +5,7 @@ use mathlib.Core.Path.{_≡_, refl, sym, ap, _∙_}
 use mathlib.Core.Logic.{⊎-elim, _≢_, _↔_}
 use mathlib.Core.Bool.{Bool, true, false, cond}
 use Prim.Native.Nat.{ℕ, zero, suc, _+_, _*_, _-_, _^_, _/_, _%_, _≤_, _<_, suc-le-suc}
-use native.Mathlib.Nat.{le-dest, le-refl, lt-of-le-of-lt, lt-of-not-le, not-suc-le-zero, le-div-iff-mul-le, div-add-mod', mod-lt, mul-le-mul-right, mul-lt-mul-of-pos-right, lt-of-mul-lt-mul-right, suc-mul, pow-suc}
+use native.Mathlib.Nat.{le-dest, le-refl, lt-of-le-of-lt, lt-of-not-le, not-suc-le-zero, le-div-iff-mul-le, div-add-mod', mod-lt, mul-le-mul-right, lt-of-mul-lt-mul-right, suc-mul, pow-suc}
 use native.Mathlib.Omega.{arith}
 use lib.Count.{leadingZeros, leading-top}
 use lib.Dec.{eqb}

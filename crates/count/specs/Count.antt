@@ -34,12 +34,12 @@ mantissa n = cond (ltb n 256) n (n / 2 ^ (exponent n - 1) - 256)
 unfoldable pub encoded : ℕ → ℕ
 encoded n = cond (leb n largestCount) (256 * exponent n + mantissa n) exceeded
 
--- The smallest count that E and M stand for: the digits that were dropped are all zeros. Arm: if IsZero(E) then UInt(M) else
--- UInt('1':M:Zeros(UInt(E)-1)).
+-- The smallest count that E and M stand for, where the E-1 digits that were dropped are all zeros. Arm: if IsZero(E) then
+-- UInt(M) else UInt('1':M:Zeros(UInt(E)-1)).
 unfoldable pub smallestOf : ℕ → ℕ → ℕ
 smallestOf e m = cond (eqb e 0) m ((256 + m) * 2 ^ (e - 1))
 
--- The largest one: they are all ones (document 02, "Four").
+-- The largest count that they stand for, where those digits are all ones: 2^(E-1) less 1 above the smallest (document 02, "Four").
 unfoldable pub largestOf : ℕ → ℕ → ℕ
 largestOf e m = cond (eqb e 0) m (smallestOf e m + (2 ^ (e - 1) - 1))
 

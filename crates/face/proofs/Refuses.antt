@@ -2,14 +2,14 @@
 -- nothing that was lent to be changed is.
 use Prim.Native.Nat.{ℕ, zero, suc, _+_, _*_, _/_, _%_, _≤_, _<_}
 use native.Mathlib.Omega.{arith}
-use mathlib.Core.Path.{_≡_, refl, ap, _∙_}
+use mathlib.Core.Path.{_≡_, refl}
 use mathlib.Core.Bool.{Bool, true, false, cond, _&&_, _||_, not}
-use mathlib.Core.Logic.{_≢_, _⊎_, inl, inr, ⊎-elim}
+use mathlib.Core.Logic.{_≢_, _⊎_, ⊎-elim}
 use mathlib.Core.List.{List, [], _∷_, _++_}
 use lib.Dec.{eqb, ltb, leb}
 use lib.ListN.{length, drop}
 use borrow.Author.Tests.{lt-ltb, le-ltb, lt-leb, le-leb}
-use Rattle.bits.proofs.Cases.{never, either, below-or-not}
+use Rattle.bits.proofs.Cases.{either, below-or-not}
 use Rattle.answer.specs.declared.Answer.{Answer}
 use Rattle.answer.specs.Answer.{returned}
 use Rattle.bits.specs.Bits.{oneOf}
@@ -32,7 +32,7 @@ use Rattle.room.specs.declared.Record.{Record}
 use Rattle.room.specs.Room.{needed}
 use Rattle.bank.specs.Bank.{bankRefusal, viewShows, bankShows}
 use Rattle.operation.specs.Operation.{lastCode, operationOf}
-use Rattle.operation.specs.Refusal.{unknownCode, firstThat, table}
+use Rattle.operation.specs.Refusal.{unknownCode, table}
 use Rattle.recorder.specs.Step.{stepOf}
 use Rattle.recorder.specs.Lent.{lentStep}
 use Rattle.recording.specs.declared.Numbers.{Numbers}
@@ -44,8 +44,8 @@ use Rattle.brb.specs.Face.{stepResult}
 use Rattle.batch.specs.Run.{readings}
 use Rattle.batch.specs.Batch.{Batch, batched, steps, doneAll, batchOf}
 use Rattle.brb.specs.Recordings.{readInto, ofReading, readResult, recordedResult, batchInNumbers, batchResult}
-use Rattle.demands.specs.First.{First, here, later, none, Accepted, AnswersBy, refuses, accepts}
-use Rattle.demands.proofs.Demand1.{first, step-number}
+use Rattle.demands.specs.First.{First, here, later, none, AnswersBy, refuses, accepts}
+use Rattle.demands.proofs.Demand1.{step-number}
 use Rattle.face.specs.Lines.{Lines, tooFew, batchLines, stepLines, codeAt, valuesOf, restAt, readingLines, recordedLines, readLines, writeLines, bankLines, decodeLines, sumLines}
 
 -- ---- lines one after another

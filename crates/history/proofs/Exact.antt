@@ -18,7 +18,7 @@ use Rattle.operation.proofs.Laws.{accepts-if}
 use Rattle.change.specs.Change.{passed, effectOf}
 use Rattle.recorder.specs.Step.{accepted, stepOf}
 use Rattle.history.specs.History.{Timed, Machine, stepped, run, shown, Note, Noted, isAccepted, effectIn, clockAfter, notesAfter, notedStep, notedRun, history, notesOf, note, resetWith, FromReset, reset, unset, isValid, stretch, S, U, T, Within, acceptedCycles}
-use Rattle.history.specs.Events.{isReset, isEmptying, makesRecord, restarts, empties, howMany, EndsMaking, EventOf, Between}
+use Rattle.history.specs.Events.{isReset, isEmptying, makesRecord, restarts, empties, howMany, EventOf, Between}
 use Rattle.history.proofs.Notes.{zero-invalid, numbered-zeros, moved-up}
 use Rattle.history.proofs.Allowed.{Allowed, keeps, pushes, clears, starts, allowed}
 use Rattle.history.proofs.Demand3.{plain, noted, demand-3}

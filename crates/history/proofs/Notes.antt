@@ -9,7 +9,6 @@ use lib.ListN.{take, replicate, length-take, List·getD-eq-default}
 use lib.Seq.{getD-take}
 use borrow.Author.Tests.{eqb-true}
 use Rattle.bits.proofs.Cases.{below-or-not}
-use Rattle.count.specs.declared.Decoded.{Decoded}
 use Rattle.count.specs.declared.Decoded.the-variants.{Known}
 use Rattle.count.specs.Count.{largestCount, encoded, smallestOf, largestOf, decoded, spreadOf}
 use Rattle.count.proofs.Laws.{encoded-fits, above, decoded-exceeded, rounding}
@@ -20,7 +19,7 @@ use Rattle.room.specs.declared.Record.{Record}
 use Rattle.room.specs.Room.{zeroRecord, numbered}
 use Rattle.event.specs.declared.Event.{Event}
 use Rattle.event.specs.Event.{packed, countUnknown, BRBINF, recordOf}
-use Rattle.history.specs.History.{Note, note, CCU, CC, isValid, isKnown, isCounted, spread, Near, Within}
+use Rattle.history.specs.History.{Note, note, CCU, CC, isValid, isKnown, isCounted, spread, Within}
 use Rattle.bits.proofs.Each.{each}
 
 -- ---- one record

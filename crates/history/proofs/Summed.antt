@@ -1,12 +1,11 @@
 -- Demand 3 as a host sees it: what `brb_count_sum` answers of the CC fields of a stretch are S and U, so that the time lies between its two
 -- ends.
-use Prim.Native.Nat.{ℕ, zero, suc, _+_, _^_, _≤_, _<_}
-use native.Mathlib.Nat.{add-zero}
+use Prim.Native.Nat.{ℕ, zero, suc, _+_, _≤_, _<_}
 use native.Mathlib.Omega.{arith}
-use mathlib.Core.Path.{_≡_, refl, sym, ap, _∙_}
-use mathlib.Core.Bool.{Bool, true, false, cond, _&&_}
+use mathlib.Core.Path.{_≡_, refl, ap, _∙_}
+use mathlib.Core.Bool.{true}
 use mathlib.Core.Logic.{⊎-elim}
-use mathlib.Core.List.{List, [], _∷_}
+use mathlib.Core.List.{List}
 use lib.Dec.{eqb}
 use lib.ListN.{length, List·getD-eq-default}
 use Rattle.bits.proofs.Cases.{never, below-or-not}
@@ -20,7 +19,7 @@ use Rattle.sum.proofs.Laws.{never-nine}
 use Rattle.room.specs.declared.Record.{Record}
 use Rattle.room.specs.Room.{zeroRecord, numbered}
 use Rattle.room.proofs.Laws.{length-records}
-use Rattle.history.specs.History.{Timed, Machine, run, shown, FromReset, CC, isValid, isKnown, isCounted, stretch, endSum, S, U, encodings, Within, acceptedCycles}
+use Rattle.history.specs.History.{Timed, Machine, run, shown, FromReset, CC, isKnown, isCounted, stretch, endSum, S, U, encodings, Within, acceptedCycles}
 use Rattle.history.specs.Events.{Between}
 use Rattle.history.proofs.Notes.{zero-invalid}
 use Rattle.history.proofs.Sound.{sound-run, sound-from, largest-size}

@@ -16,11 +16,11 @@ unfoldable pub every : (Spread → Bool) → List ℕ → Bool
 every is [] = true
 every is (cc ∷ run) = is (spreadOf (decoded cc)) && every is run
 
--- The smallest and the largest counts of a run, added up.
+-- The smallest counts of a run, added up. One that exceeded the counter is at least 1,048,576.
 abbrev pub lowSum : List ℕ → ℕ
 lowSum run = added (λ s. s .low) run
 
--- The largest ones.
+-- The largest counts of a run, added up: the upper end of its sum, where every one of them has an upper end.
 abbrev pub highSum : List ℕ → ℕ
 highSum run = added (λ s. s .high) run
 

@@ -3,7 +3,6 @@ use Prim.Native.Nat.{suc, _+_, _-_}
 use mathlib.Core.Path.{_≡_, ap, _∙_}
 use native.Mathlib.Omega.{arith}
 use denote.Ref.{now}
-use borrow.Author.Needs.{needs}
 use lib.ListN.{length, getD}
 use Rattle.count.specs.Count.{decoded, spreadOf}
 use Rattle.sum.proofs.Left.{Left, begins, turned, outside, ended}
