@@ -1,7 +1,7 @@
 //! Document 01 a second time, in plain Rust: one processor's branch record buffer, operation by operation.
 //!
-//! It is written from document 01, the requests of document 02 that have landed, `docs/DECISIONS.md` and, for what is lent,
-//! `include/brb.h` alone, so that the proved library has something independent to be compared with. [`Rules`] holds one
+//! It is written from document 01, the requests of document 02 that have landed, the page that plans them,
+//! `docs/DECISIONS.md` and, for what is lent, `include/brb.h` alone, so that the proved library has something independent to be compared with. [`Rules`] holds one
 //! method a rule, in the document's order; [`Document01`] is the document as it stands with these requests. [`Recordings`]
 //! does the same for recordings, [`Batches`] for a run of recorded operations in one call, [`Counts`] for the spread of a
 //! count and the sums of such, and [`Lines`] and [`Notation`] for what the programs `list` and `pack` print and read, which
