@@ -1,7 +1,10 @@
-/* A proved model of one processor's Arm branch record buffer (BRBE), version 1.0.0. docs/MANUAL.md says all of it: what
+/* A proved model of one processor's Arm branch record buffer (BRBE), version 2.0.0. docs/MANUAL.md says all of it: what
  * each operation does, each register, each refusal.
  *
- * What changed for a host in 1.0.0: brb_count_decode answers the smallest and the largest count that share an encoding, as a
+ * What changed for a host in 2.0.0: a state has ten numbers, the last of which says whether the processor is halted, so that a
+ * host that lends nine of its own is answered 7; one that goes by BRB_STATE_NUMBERS and begins with zeros needs to be compiled
+ * again and no more. Codes 8 and 9 are halts and resumes, which were refused with 2, and have a refusal of their own,
+ * BRB_REFUSED_HALTED. In 1.0.0: brb_count_decode answers the smallest and the largest count that share an encoding, as a
  * struct brb_spread, where it answered the smallest alone as a struct brb_answer: what was `value` is `low`. brb_count_sum adds
  * up a run of encodings, both ends, and has a refusal of its own, BRB_REFUSED_SUM. In 0.3.0: brb_batch takes a whole run of
  * recorded operations in one call, and BRB_ANSWER_NUMBERS and BRB_BATCH_NUMBERS say how much to lend for its answers. In
@@ -15,7 +18,7 @@
  * every function: the area is then never touched. Two lent areas of one call must not overlap.
  *
  * The state is BRB_STATE_NUMBERS numbers, in this order: level, size, v1p1, P, BRBCR_EL1, BRBCR_EL2, BRBFCR_EL1, the
- * running count, and whether the next count is unknown. All zeros is a fresh state, in which only a reset is accepted.
+ * running count, whether the next count is unknown, and whether the processor is halted. All zeros is a fresh state, in which only a reset is accepted.
  * More numbers may be lent; those past the needed ones are never written.
  *
  * The room holds the records, newest first: record r is BRBINF, BRBSRC, BRBTGT at 3r, 3r+1, 3r+2. It must hold
@@ -27,14 +30,16 @@
  *   102    accepted, the access traps to EL2       (value 0)
  *   103    accepted, the access traps to EL3       (value 0)
  *     1    refused: a malformed number, in a recording
- *     2    refused: a code above 7
+ *     2    refused: a code above 9
  *     3    refused: no reset yet (size 0), and the code is not 0
  *     4    refused: size, flag, type, level, register, P or count encoding outside its list
+ *     8    refused: the processor is halted, and the operation is a branch, an exception, a return or a halt; or it is not
+ *          halted, and the operation is a resume
  *     5    refused: the level does not permit the operation
  *     6    refused: the room is too short (or what else a function writes to, as it says)
  *     7    refused: the state is not sound, or its memory is too short to hold it
  *     9    refused: a sum passes 2^64 - 1 (brb_count_sum alone)
- * Refusals are checked in the order 7, 2, 3, 4, 5, 6, 9, and have the value 0. A refused operation's cycles do not count.
+ * Refusals are checked in the order 7, 2, 3, 4, 8, 5, 6, 9, and have the value 0. A refused operation's cycles do not count.
  *
  * The archive, libbrb.a, is for Linux on x86-64 (x86_64-unknown-linux-gnu: ELF, the System V calling convention), and calls
  * memmove and memset of the C library and nothing else. Its code is position independent; it becomes a shared library by
@@ -54,10 +59,10 @@ extern "C" {
 
 /* This header's version. It grows in MAJOR where a host has to change, in MINOR where something is added or an answer becomes
  * another. */
-#define BRB_VERSION_MAJOR 1
+#define BRB_VERSION_MAJOR 2
 #define BRB_VERSION_MINOR 0
 #define BRB_VERSION_PATCH 0
-#define BRB_VERSION "1.0.0"
+#define BRB_VERSION "2.0.0"
 
 /* A constant of 64 bits. C89 has no literal for it, and C++ warns of C's casts. */
 #ifdef __cplusplus
@@ -79,6 +84,8 @@ extern "C" {
 #define BRB_CODE_READ 5
 #define BRB_CODE_WRITE 6
 #define BRB_CODE_IALL 7
+#define BRB_CODE_HALT 8
+#define BRB_CODE_RESUME 9
 
 /* Answers of accepted operations. */
 #define BRB_DONE 0
@@ -94,6 +101,7 @@ extern "C" {
 #define BRB_REFUSED_LEVEL 5
 #define BRB_REFUSED_ROOM 6
 #define BRB_REFUSED_STATE 7
+#define BRB_REFUSED_HALTED 8
 #define BRB_REFUSED_SUM 9
 
 /* Whether an answer's number is a refusal. */
@@ -112,7 +120,7 @@ extern "C" {
 #define BRB_BRBIDR0_EL1(size) (0x5000 + (size))
 
 /* How many numbers a state has. */
-#define BRB_STATE_NUMBERS 9
+#define BRB_STATE_NUMBERS 10
 
 /* Where each number of a state stands. */
 #define BRB_STATE_LEVEL 0
@@ -124,6 +132,7 @@ extern "C" {
 #define BRB_STATE_BRBFCR_EL1 6
 #define BRB_STATE_COUNT 7
 #define BRB_STATE_UNKNOWN 8
+#define BRB_STATE_HALTED 9
 
 /* How many numbers the records of a buffer of this size take; the largest size, and the room for it. */
 #define BRB_ROOM_NUMBERS(size) (3 * (size))
@@ -146,6 +155,10 @@ extern "C" {
 
 /* The type that the record of an exception return shows. No operation names it. */
 #define BRB_TYPE_EXCEPTION_RETURN 7
+
+/* The types that the records of a halt and of a resume show: Debug halt and Debug state exit. No operation names them. */
+#define BRB_TYPE_DEBUG_HALT 0x21
+#define BRB_TYPE_DEBUG_EXIT 0x39
 
 /* Types of exceptions. */
 #define BRB_TYPE_CALL 0x22
@@ -253,6 +266,8 @@ struct brb_answer {
  *     5  read               a register
  *     6  write              a register, b value
  *     7  BRB IALL
+ *     8  halt               a source
+ *     9  resume             a target, b target level
  * Numbers beyond an operation's own fields are not looked at.
  * Registers: 0 BRBIDR0_EL1, 1 BRBCR_EL1, 2 BRBCR_EL2, 3 BRBFCR_EL1, and with m from 0 to 31, 32+m BRBINF, 64+m BRBSRC,
  * 96+m BRBTGT.
@@ -303,13 +318,13 @@ struct brb_answer brb_bank_target(const uint64_t *room, size_t room_numbers, uin
 
 /* The operation at position `at` of a recording, into `place`: code, cycles, then its fields, and 0 for those that it has
  * not. Answers 0 and the position after it; or 6 where `place` has fewer than BRB_OPERATION_NUMBERS (checked first), 1
- * where a number is malformed or the input ends inside the operation, 2 where the code is above 7, each with the value 0
+ * where a number is malformed or the input ends inside the operation, 2 where the code is above 9, each with the value 0
  * and `place` as it was. Numbers of `place` past the six are never written. No place at all (a length of 0, NULL too) is 6,
  * no bytes at all are 1. */
 struct brb_answer brb_recording_read(const uint8_t *bytes, size_t length, size_t at, uint64_t *place,
                                      size_t place_numbers);
 
-/* An operation at position `at` of lent bytes. Answers 0 and the number of bytes written; or 2 where the code is above 7,
+/* An operation at position `at` of lent bytes. Answers 0 and the number of bytes written; or 2 where the code is above 9,
  * then 6 where the operation has no room there, each with the value 0 and no byte written. Nothing else is checked: any
  * numbers are written. Bytes before and past the operation are never written. No bytes at all (a length of 0, NULL too) are
  * 6, after 2. */
@@ -332,7 +347,7 @@ struct brb_recorded brb_step_recorded(uint64_t *state, size_t state_numbers, uin
 
 /* A run of recorded operations in one call: what calls of brb_step_recorded do, one after another, from the first byte on. It
  * ends with the bytes, or with the first operation that is answered 1 (a number is malformed, or the bytes end inside the
- * operation) or 2 (a code above 7), which is the last one answered. Into `answers` goes what each call would answer:
+ * operation) or 2 (a code above 9), which is the last one answered. Into `answers` goes what each call would answer:
  * answers[2 * i] is the number and answers[2 * i + 1] the value of operation i, counted from 0. Any other refusal of an
  * operation, its own 6 for the room too, stands in its two numbers, changes nothing, and the batch goes on.
  * Answers 0 and how many operations were answered; or 7 where the state is not sound or its memory too short; else 6 where

@@ -17,7 +17,7 @@ use Rattle.event.specs.declared.Event.{Event}
 use Rattle.event.specs.Event.{recordOf, becomesRecord, eventEffect}
 use Rattle.access.specs.Access.{iallOutcome}
 use Rattle.operation.specs.declared.Operation.{Operation}
-use Rattle.operation.specs.declared.Operation.the-variants.{Reset, Branch, Exception, Return, Platform, Read, Write, Iall, Unknown}
+use Rattle.operation.specs.declared.Operation.the-variants.{Reset, Branch, Exception, Return, Platform, Read, Write, Iall, Halt, Resume, Unknown}
 use Rattle.operation.specs.Operation.{codeOf}
 use Rattle.change.specs.Change.{effectOf, runningAfter}
 
@@ -26,7 +26,7 @@ module _ (P : Effect → Type 0) (s : State) (r : Running) (keep : P Keep) (clea
   one-of true a b = a
   one-of false a b = b
 
-  of-event : (wanted : Bool) (e : Event) → P (eventEffect s r wanted e)
+  of-event : (wanted : Bool) (e : Event) → P (eventEffect s wanted e r)
   of-event wanted e = one-of (becomesRecord s wanted e) (push e) keep
 
   pub of-effect : (o : Operation) → eqb (codeOf o) 0 ≡ false → P (effectOf s o r)
@@ -39,6 +39,8 @@ module _ (P : Effect → Type 0) (s : State) (r : Running) (keep : P Keep) (clea
   of-effect (Read k) h = keep
   of-effect (Write k value) h = keep
   of-effect Iall h = one-of (isDone (iallOutcome s)) clear keep
+  of-effect (Halt source) h = of-event _ _
+  of-effect (Resume target level) h = of-event _ _
   of-effect Unknown h = keep
 
 -- R_KVRBB: once a record has taken the count, it is known again and counts the cycles since then.

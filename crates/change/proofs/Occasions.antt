@@ -1,4 +1,4 @@
--- The occasions on which the next count becomes unknown, as document 01 ("Cycles") and document 02 (One) list them, and that they are those of the definition.
+-- The occasions on which the next count becomes unknown, as document 01 ("Cycles") and document 02 (One and Five) list them, and that they are those of the definition.
 use Prim.Native.Nat.{ℕ}
 use mathlib.Core.Path.{_≡_, refl, sym, ap, _∙_}
 use mathlib.Core.Bool.{Bool, true, false, cond, _&&_, _||_, not}
@@ -7,20 +7,20 @@ use lib.Dec.{eqb}
 use Rattle.bits.proofs.Cases.{never, or-true, one-of-two}
 use Rattle.bits.proofs.Each.{each}
 use Rattle.state.specs.declared.State.{State}
-use Rattle.state.specs.Named.{counting, PAUSED}
+use Rattle.state.specs.Named.{counting, PAUSED, side}
 use Rattle.region.specs.Region.{prohibited}
 use Rattle.answer.specs.Answer.{isDone}
 use Rattle.access.specs.Access.{iallOutcome}
 use Rattle.operation.specs.declared.Operation.{Operation}
-use Rattle.operation.specs.declared.Operation.the-variants.{Reset, Branch, Exception, Return, Platform, Read, Write, Iall, Unknown}
+use Rattle.operation.specs.declared.Operation.the-variants.{Reset, Branch, Exception, Return, Platform, Read, Write, Iall, Halt, Resume, Unknown}
 use Rattle.operation.specs.Operation.{codeOf}
-use Rattle.operation.specs.Changed.{changed}
+use Rattle.operation.specs.Clause.{changed}
 use Rattle.change.specs.Change.{turnedCountingOn, clearedPAUSED, performedIALL, occasion}
 
--- The listed occasions, one by one (document 01, "Cycles"; document 02, One; R_MJDLC): any operation that began at a prohibited level; a write
--- that turned counting on; a write that cleared PAUSED; a BRB IALL that was performed.
+-- The listed occasions, one by one (document 01, "Cycles"; document 02, One and Five; R_MJDLC): any operation that began at a prohibited level, or
+-- in Debug state; a write that turned counting on; a write that cleared PAUSED; a BRB IALL that was performed.
 pub data Occasion (s : State) : Operation → Type 0 where
-  began-prohibited : {o : Operation} → prohibited s (s .level) ≡ true → Occasion s o
+  began-prohibited : {o : Operation} → prohibited s (side s) ≡ true → Occasion s o
   counting-turned-on : {register value : ℕ} → counting s ≡ false → counting (changed s (Write register value)) ≡ true
       → Occasion s (Write register value)
   PAUSED-cleared : {register value : ℕ} → PAUSED s ≡ true → PAUSED (changed s (Write register value)) ≡ false
@@ -39,9 +39,9 @@ or-false true = refl
 or-false false = refl
 
 -- The level's line, then the operation's own three.
-pub lines : (s : State) (o : Operation) → prohibited s (s .level) || (turnedCountingOn s o || clearedPAUSED s o || performedIALL s o) ≡ occasion s o
+pub lines : (s : State) (o : Operation) → prohibited s (side s) || (turnedCountingOn s o || clearedPAUSED s o || performedIALL s o) ≡ occasion s o
 unfolding occasion
-lines s o = go (prohibited s (s .level)) (turnedCountingOn s o) (clearedPAUSED s o) (performedIALL s o)
+lines s o = go (prohibited s (side s)) (turnedCountingOn s o) (clearedPAUSED s o) (performedIALL s o)
   where
     go : (level a b c : Bool) → level || (a || b || c) ≡ level || a || b || c
     go true a b c = refl
@@ -56,7 +56,7 @@ and-not h k = rw (h, k)
 
 module _ (s : State) where
   abbrev level : Bool
-  level = prohibited s (s .level)
+  level = prohibited s (side s)
 
   -- Each of them is an occasion of the definition, by its line.
   pub is-occasion : {o : Operation} → Occasion s o → occasion s o ≡ true
@@ -114,8 +114,10 @@ module _ (s : State) where
   which-occasion (Write r value) k =
       by-lines _ began-prohibited (λ h. counting-turned-on (search each) (search each)) (λ h. PAUSED-cleared (search each) (search each)) (λ h. never (cc))
   which-occasion Iall k = by-lines _ began-prohibited (unturned Iall refl) (uncleared Iall refl) IALL-performed
+  which-occasion (Halt source) k = by-level _ refl refl refl
+  which-occasion (Resume target level) k = by-level _ refl refl refl
   which-occasion Unknown k = by-level _ refl refl refl
 
   -- Where the operation sets nothing and is no performed BRB IALL, only its level can be one.
-  pub unchanged-occasion : (o : Operation) → changed s o ≡ s → performedIALL s o ≡ false → occasion s o ≡ prohibited s (s .level)
+  pub unchanged-occasion : (o : Operation) → changed s o ≡ s → performedIALL s o ≡ false → occasion s o ≡ prohibited s (side s)
   unchanged-occasion o same none = sym (lines s o) ∙ rw (same, none, unset (counting s) (PAUSED s) false, or-false level)

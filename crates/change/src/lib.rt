@@ -1,18 +1,21 @@
-// What an accepted operation changes: level, P and registers, the running count, and the records (document 01, "Operations",
-// "Which events become records" and "Cycles"; document 02, One).
+// What an accepted operation does: its clause, the running count, and what the two come to (document 01, "Operations", "Which
+// events become records", "Access outcomes" and "Cycles"; document 02, One and Five).
 ghost use mathlib.Core.Path.{_≡_};
-ghost use mathlib.Core.Bool.{false, cond, _||_};
+ghost use mathlib.Core.Bool.{true, false, cond, _||_};
 ghost use Rattle.answer.specs.Answer.{isDone};
-ghost use Rattle.state.specs.Named.{withRunning};
-ghost use Rattle.access.specs.Access.{writeOutcome, iallOutcome, meant, registerWritten};
-ghost use Rattle.event.specs.Event.{controlled, recordOf, becomesRecord};
-ghost use Rattle.filter.specs.Filter.{exceptionReturn, passesFilter};
-ghost use Rattle.operation.specs.Changed.{changed};
-ghost use Rattle.change.specs.Change.{turnedCountingOn, clearedPAUSED, performedIALL, passed, eventFrom, effectOf, runningAfter};
+ghost use Rattle.state.specs.Named.{debugState, side, atLevel, inDebugState, resumedAt};
+ghost use Rattle.access.specs.Access.{writeOutcome, iallOutcome, registerWritten, meant};
+ghost use Rattle.event.specs.Event.{controlled, eventFrom, recordOf, becomesRecord};
+ghost use Rattle.filter.specs.Filter.{exceptionReturn, debugHalt, debugExit, passesFilter};
+ghost use Rattle.operation.specs.Clause.{changed};
+ghost use Rattle.change.specs.Change.{turnedCountingOn, clearedPAUSED, performedIALL, passed, effectOf, answerOf, runningAfter, decided};
 use access::iall_outcome;
 use access::meant;
+use access::read_outcome;
+use access::register_value;
 use access::register_written;
 use access::write_outcome;
+use answer::Answer;
 use event::Event;
 use event::becomes_record;
 use event::exception_controlled;
@@ -22,83 +25,34 @@ use filter::BranchType;
 use operation::Operation;
 use region::prohibited;
 use room::Effect;
+use state::DEBUG_STATE;
 use state::Running;
 use state::State;
 
-// The type of an exception return.
+// The types of an exception return, of a halt and of a resume.
 const RETURN: u64 = 7;
 
-// What an operation asks of the records: an event and whether it is wanted, and what happens where it becomes no record. An
-// operation that is no event asks for one that is not wanted.
-struct Asked {
+const DEBUG_HALT: u64 = 0x21;
+
+const DEBUG_EXIT: u64 = 0x39;
+
+// What the clause of an operation says: what the operation has set, and whether it is an occasion by what it did, wherever it
+// began; an event, whether it is wanted, and what happens to the records where it becomes none; and the answer. An operation
+// that is no event asks for one that is not wanted.
+struct Clause {
+    sets: State,
+    occasion: bool,
     wanted: bool,
     event: Event,
     otherwise: Effect,
+    answer: Answer,
 }
 
-// The state after a write, performed or not.
-fn written(s: State, r: u64, value: u64) -> State
-    ensures { λ x. ⌜ x ≡ cond (isDone (writeOutcome s r)) (registerWritten s (meant s r) value) s ⌝ }
-{
-    if write_outcome(s, r).is_done() {
-        register_written(s, meant(s, r), value)
-    } else {
-        s
-    }
-}
-
-// What an operation has set, and whether the operation is an occasion by what it did, at whatever level.
-struct Settled {
-    state: State,
-    occasion: bool,
-}
-
-fn settle(state: State, occasion: bool) -> Settled
-    ensures { λ x. ⌜ x ≡ record { state = state; occasion = occasion } ⌝ }
-{
-    Settled { state, occasion }
-}
-
-// A write, performed or not: whether it turned counting on or cleared PAUSED.
-fn write_settles(s: State, r: u64, value: u64) -> Settled
-    ensures { λ x. ⌜ x ≡ record { state = changed s (Operation.Write r value); occasion = turnedCountingOn s (Operation.Write r value) || clearedPAUSED s (Operation.Write r value) } ⌝ }
-{
-    let after = written(s, r, value);
-    let counting = s.counting();
-    let counts = after.counting();
-    let paused = s.paused();
-    let pauses = after.paused();
-    settle(after, !counting & counts | paused & !pauses)
-}
-
-// Level, P and registers as the operation has set them. (A reset is no occasion that anybody could see: it makes the next
-// count unknown by itself.)
-fn settles(s: State, o: Operation) -> Settled
-    ensures { λ x. ⌜ (x .state ≡ changed s o) × (x .occasion ≡ (turnedCountingOn s o || clearedPAUSED s o || performedIALL s o)) ⌝ }
-{
-    match o {
-        Operation::Reset { size, v1p1 } => settle(State::after_reset(size, v1p1), s.paused()),
-        Operation::Branch { .. } => settle(s, false),
-        Operation::Exception { target_level, .. } => settle(s.at_level(target_level), false),
-        Operation::Return { target_level, .. } => settle(s.at_level(target_level), false),
-        Operation::Platform { p } => settle(s.with_platform(p), false),
-        Operation::Read { .. } => settle(s, false),
-        Operation::Write { register, value } => write_settles(s, register, value),
-        Operation::Iall => settle(s, iall_outcome(s).is_done()),
-        Operation::Unknown => settle(s, false),
-    }
-}
-
-// The state once the operation has set level, P or registers and its cycles are in the running count, before a record takes
-// it.
-pub fn passed(s: State, o: Operation, cycles: u64) -> State
-    ensures { λ x. ⌜ x ≡ withRunning (passed s o cycles) (changed s o) ⌝ }
-{
-    let settled = settles(s, o);
-    let hidden = prohibited(s, s.level);
-    let after = settled.state;
-    let r = s.running;
-    after.with_running(running::passed(r, hidden | settled.occasion, cycles))
+// All that an accepted operation comes to, before the room is written.
+pub struct Decided {
+    pub answer: Answer,
+    pub state: State,
+    pub effect: Effect,
 }
 
 fn event_from(
@@ -114,122 +68,217 @@ fn event_from(
     Event {
         kind,
         mispredicted,
-        left: s.level,
+        left: s.side(),
         entered,
         source,
         target,
     }
 }
 
-fn ask(wanted: bool, event: Event, otherwise: Effect) -> Asked
-    ensures { λ x. ⌜ x ≡ record { wanted = wanted; event = event; otherwise = otherwise } ⌝ }
+// An event is no occasion by itself, and is done.
+fn event_clause(sets: State, wanted: bool, event: Event) -> Clause
+    ensures { λ x. ⌜ x ≡ record { sets = sets; occasion = false; wanted = wanted; event = event; otherwise = Effect.Keep; answer = Answer.Done } ⌝ }
 {
-    Asked {
+    Clause {
+        sets,
+        occasion: false,
         wanted,
         event,
-        otherwise,
+        otherwise: Effect::Keep,
+        answer: Answer::Done,
     }
 }
 
 // An operation that is no event.
-fn no_event(s: State, effect: Effect) -> Asked
-    ensures { λ x. ⌜ x ≡ record { wanted = false; event = eventFrom s 0 0 0 0 0; otherwise = effect } ⌝ }
+fn plain_clause(s: State, sets: State, occasion: bool, effect: Effect, answer: Answer) -> Clause
+    ensures { λ x. ⌜ x ≡ record { sets = sets; occasion = occasion; wanted = false; event = eventFrom s 0 0 0 0 0; otherwise = effect; answer = answer } ⌝ }
 {
-    ask(false, event_from(s, 0, 0, 0, 0, 0), effect)
+    Clause {
+        sets,
+        occasion,
+        wanted: false,
+        event: event_from(s, 0, 0, 0, 0, 0),
+        otherwise: effect,
+        answer,
+    }
 }
 
-// A branch stays at its level, and the filter says whether it is wanted.
-fn branch_asked(s: State, kind: u64, mispredicted: u64, source: u64, target: u64) -> Asked
-    ensures { λ x. ⌜ x ≡ record { wanted = passesFilter (s .brbfcr) (record { code = kind }); event = eventFrom s kind mispredicted (s .level) source target; otherwise = Effect.Keep } ⌝ }
+// A branch stays where it is, and the filter says whether it is wanted.
+fn branch_clause(s: State, kind: u64, mispredicted: u64, source: u64, target: u64) -> Clause
+    ensures { λ x. ⌜ x ≡ record { sets = s; occasion = false; wanted = passesFilter (s .brbfcr) (record { code = kind }); event = eventFrom s kind mispredicted (side s) source target; otherwise = Effect.Keep; answer = Answer.Done } ⌝ }
 {
     let t = BranchType { code: kind };
     let wanted = t.passes_filter(s.brbfcr);
-    let event = event_from(s, kind, mispredicted, s.level, source, target);
-    ask(wanted, event, Effect::Keep)
+    let event = event_from(s, kind, mispredicted, s.side(), source, target);
+    event_clause(s, wanted, event)
 }
 
 // An exception is controlled by the level that it enters.
-fn exception_asked(s: State, kind: u64, level: u64, source: u64, target: u64) -> Asked
-    ensures { λ x. ⌜ x ≡ record { wanted = controlled s 23 level; event = eventFrom s kind 0 level source target; otherwise = Effect.Keep } ⌝ }
+fn exception_clause(s: State, kind: u64, level: u64, source: u64, target: u64) -> Clause
+    ensures { λ x. ⌜ x ≡ record { sets = atLevel level s; occasion = false; wanted = controlled s 23 level; event = eventFrom s kind 0 level source target; otherwise = Effect.Keep; answer = Answer.Done } ⌝ }
 {
     let wanted = exception_controlled(s, level);
-    ask(
-        wanted,
-        event_from(s, kind, 0, level, source, target),
-        Effect::Keep,
-    )
+    let event = event_from(s, kind, 0, level, source, target);
+    event_clause(s.at_level(level), wanted, event)
 }
 
 // A return is controlled by the level that it leaves.
-fn return_asked(s: State, level: u64, mispredicted: u64, source: u64, target: u64) -> Asked
-    ensures { λ x. ⌜ x ≡ record { wanted = controlled s 22 (s .level); event = eventFrom s exceptionReturn mispredicted level source target; otherwise = Effect.Keep } ⌝ }
+fn return_clause(s: State, level: u64, mispredicted: u64, source: u64, target: u64) -> Clause
+    ensures { λ x. ⌜ x ≡ record { sets = atLevel level s; occasion = false; wanted = controlled s 22 (s .level); event = eventFrom s exceptionReturn mispredicted level source target; otherwise = Effect.Keep; answer = Answer.Done } ⌝ }
 {
     let wanted = return_controlled(s);
-    ask(
-        wanted,
-        event_from(s, RETURN, mispredicted, level, source, target),
+    let event = event_from(s, RETURN, mispredicted, level, source, target);
+    event_clause(s.at_level(level), wanted, event)
+}
+
+// A halt goes to Debug state, whatever filter and controls say.
+fn halt_clause(s: State, source: u64) -> Clause
+    ensures { λ x. ⌜ x ≡ record { sets = inDebugState s; occasion = false; wanted = true; event = eventFrom s debugHalt 0 debugState source 0; otherwise = Effect.Keep; answer = Answer.Done } ⌝ }
+{
+    let event = event_from(s, DEBUG_HALT, 0, DEBUG_STATE, source, 0);
+    event_clause(s.in_debug_state(), true, event)
+}
+
+// A resume goes from Debug state to its level, whatever filter and controls say.
+fn resume_clause(s: State, target: u64, level: u64) -> Clause
+    ensures { λ x. ⌜ x ≡ record { sets = resumedAt level s; occasion = false; wanted = true; event = eventFrom s debugExit 0 level 0 target; otherwise = Effect.Keep; answer = Answer.Done } ⌝ }
+{
+    let event = event_from(s, DEBUG_EXIT, 0, level, 0, target);
+    event_clause(s.resumed_at(level), true, event)
+}
+
+// What a read answers.
+fn read_answer(s: State, room: &[u64], register: u64) -> Answer
+    ensures { λ r. ⌜ r ≡ answerOf s (Operation.Read register) (now (room .entry)) ⌝ }
+{
+    let ended = read_outcome(s, register);
+    if ended.is_done() {
+        Answer::Value(register_value(s, room, meant(s, register)))
+    } else {
+        ended
+    }
+}
+
+// The state after a write, performed or not.
+fn written(s: State, performed: bool, r: u64, value: u64) -> State
+    ensures { λ x. ⌜ x ≡ cond performed (registerWritten s (meant s r) value) s ⌝ }
+{
+    if performed {
+        register_written(s, meant(s, r), value)
+    } else {
+        s
+    }
+}
+
+// A write, performed or not: it may turn counting on, or clear PAUSED.
+fn write_clause(s: State, r: u64, value: u64) -> Clause
+    ensures { λ x. ⌜ x ≡ record { sets = changed s (Operation.Write r value); occasion = turnedCountingOn s (Operation.Write r value) || clearedPAUSED s (Operation.Write r value); wanted = false; event = eventFrom s 0 0 0 0 0; otherwise = Effect.Keep; answer = writeOutcome s r } ⌝ }
+{
+    let ended = write_outcome(s, r);
+    let performed = ended.is_done();
+    let after = written(s, performed, r, value);
+    let counting = s.counting();
+    let counts = after.counting();
+    let paused = s.paused();
+    let pauses = after.paused();
+    plain_clause(
+        s,
+        after,
+        !counting & counts | paused & !pauses,
         Effect::Keep,
+        ended,
     )
 }
 
 // BRB IALL clears the records where it is performed.
-fn iall_effect(s: State) -> Effect
-    ensures { λ x. ⌜ x ≡ cond (isDone (iallOutcome s)) Effect.Clear Effect.Keep ⌝ }
+fn iall_effect(performed: bool) -> Effect
+    ensures { λ x. ⌜ x ≡ cond performed Effect.Clear Effect.Keep ⌝ }
 {
-    if iall_outcome(s).is_done() {
+    if performed {
         Effect::Clear
     } else {
         Effect::Keep
     }
 }
 
-// What an operation asks of the records. For any running count it comes to what the operation does to them.
-fn asked_of(s: State, o: Operation) -> Asked
-    ensures { λ x. ⌜ ((r : Running) → cond (becomesRecord s (x .wanted) (x .event)) (Effect.Push (recordOf s r (x .event))) (x .otherwise) ≡ effectOf s o r) ⌝ }
+// BRB IALL is an occasion where it is performed.
+fn iall_clause(s: State) -> Clause
+    ensures { λ x. ⌜ x ≡ record { sets = s; occasion = isDone (iallOutcome s); wanted = false; event = eventFrom s 0 0 0 0 0; otherwise = cond (isDone (iallOutcome s)) Effect.Clear Effect.Keep; answer = iallOutcome s } ⌝ }
+{
+    let ended = iall_outcome(s);
+    let performed = ended.is_done();
+    plain_clause(s, s, performed, iall_effect(performed), ended)
+}
+
+// The clause of an operation, one line each. (A reset is no occasion that anybody could see: it makes the next count unknown by
+// itself.)
+fn does(s: State, room: &[u64], o: Operation) -> Clause
+    ensures { λ x. ⌜ (x .sets ≡ changed s o) × (x .occasion ≡ (turnedCountingOn s o || clearedPAUSED s o || performedIALL s o)) × ((r : Running) → cond (becomesRecord s (x .wanted) (x .event)) (Effect.Push (recordOf s r (x .event))) (x .otherwise) ≡ effectOf s o r) × (x .answer ≡ answerOf s o (now (room .entry))) ⌝ }
 {
     match o {
-        Operation::Reset { size, .. } => no_event(s, Effect::ResetTo(size)),
+        Operation::Reset { size, v1p1 } => plain_clause(
+            s,
+            State::after_reset(size, v1p1),
+            s.paused(),
+            Effect::ResetTo(size),
+            Answer::Done,
+        ),
         Operation::Branch {
             kind,
             mispredicted,
             source,
             target,
-        } => branch_asked(s, kind, mispredicted, source, target),
+        } => branch_clause(s, kind, mispredicted, source, target),
         Operation::Exception {
             kind,
             target_level,
             source,
             target,
-        } => { exception_asked(s, kind, target_level, source, target) }
+        } => exception_clause(s, kind, target_level, source, target),
         Operation::Return {
             target_level,
             mispredicted,
             source,
             target,
-        } => { return_asked(s, target_level, mispredicted, source, target) }
-        Operation::Platform { .. } => no_event(s, Effect::Keep),
-        Operation::Read { .. } => no_event(s, Effect::Keep),
-        Operation::Write { .. } => no_event(s, Effect::Keep),
-        Operation::Iall => no_event(s, iall_effect(s)),
-        Operation::Unknown => no_event(s, Effect::Keep),
+        } => return_clause(s, target_level, mispredicted, source, target),
+        Operation::Platform { p } => plain_clause(
+            s,
+            s.with_platform(p),
+            false,
+            Effect::Keep,
+            Answer::Done,
+        ),
+        Operation::Read { register } => plain_clause(
+            s,
+            s,
+            false,
+            Effect::Keep,
+            read_answer(s, room, register),
+        ),
+        Operation::Write { register, value } => write_clause(s, register, value),
+        Operation::Iall => iall_clause(s),
+        Operation::Halt { source } => halt_clause(s, source),
+        Operation::Resume {
+            target,
+            target_level,
+        } => resume_clause(s, target, target_level),
+        Operation::Unknown => plain_clause(s, s, false, Effect::Keep, Answer::Done),
     }
 }
 
-// What an operation does to the records, where the running count is r with its cycles in it. All events come to one call
-// of `record_of`, so that the compiler keeps what it decides in registers.
-pub fn effect_of(s: State, o: Operation, r: Running) -> Effect
-    ensures { λ x. ⌜ x ≡ effectOf s o r ⌝ }
+// What becomes of the event that a clause asks for. All events come to one call of `record_of`, so that the compiler keeps what
+// it decides in registers.
+fn effect_by(s: State, wanted: bool, event: Event, otherwise: Effect, r: Running) -> Effect
+    ensures { λ x. ⌜ x ≡ cond (becomesRecord s wanted event) (Effect.Push (recordOf s r event)) otherwise ⌝ }
 {
-    let asks = asked_of(s, o);
-    let event = asks.event;
-    if becomes_record(s, asks.wanted, event) {
+    if becomes_record(s, wanted, event) {
         Effect::Push(record_of(s, r, event))
     } else {
-        asks.otherwise
+        otherwise
     }
 }
 
-pub fn running_after(effect: Effect, r: Running) -> Running
+fn running_after(effect: Effect, r: Running) -> Running
     ensures { λ x. ⌜ x ≡ runningAfter effect r ⌝ }
 {
     match effect {
@@ -243,5 +292,26 @@ pub fn running_after(effect: Effect, r: Running) -> Running
             count: 0,
             unknown: 1,
         },
+    }
+}
+
+// An accepted operation: its clause, then the running count with its cycles in it, then what that makes of the records.
+pub fn decide(s: State, room: &[u64], o: Operation, cycles: u64) -> Decided
+    ensures { λ x. ⌜ x ≡ decided s o cycles (now (room .entry)) ⌝ }
+{
+    let clause = does(s, room, o);
+    let hidden = prohibited(s, s.side());
+    let before = s.running;
+    let running = running::passed(before, hidden | clause.occasion, cycles);
+    let event = clause.event;
+    let otherwise = clause.otherwise;
+    let effect = effect_by(s, clause.wanted, event, otherwise, running);
+    let after = clause.sets;
+    let state = after.with_running(running_after(effect, running));
+    let answer = clause.answer;
+    Decided {
+        answer,
+        state,
+        effect,
     }
 }

@@ -134,6 +134,8 @@ fn say_kind(code: u64) {
         4 => say(b"a platform word"),
         5 => say(b"a read"),
         6 => say(b"a write"),
+        8 => say(b"a halt"),
+        9 => say(b"a resume"),
         _ => say(b"a BRB IALL"),
     }
 }

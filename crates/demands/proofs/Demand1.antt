@@ -18,10 +18,11 @@ use Rattle.answer.specs.declared.Answer.the-variants.{Done, Value, Undefined, T
 use Rattle.answer.specs.Answer.{returned, isDone}
 use Rattle.access.specs.Access.{trapped2, trapped3, outcome, readOutcome, writeOutcome, iallOutcome}
 use Rattle.operation.specs.declared.Operation.{Operation}
-use Rattle.operation.specs.declared.Operation.the-variants.{Reset, Branch, Exception, Return, Platform, Read, Write, Iall, Unknown}
+use Rattle.operation.specs.declared.Operation.the-variants.{Reset, Branch, Exception, Return, Platform, Read, Write, Iall, Halt, Resume, Unknown}
 use Rattle.operation.specs.Operation.{operationOf}
 use Rattle.operation.specs.Refusal.{firstThat, table, refusalOf}
-use Rattle.recorder.specs.Step.{answerOf, accepted, refused, stepOf}
+use Rattle.change.specs.Change.{answerOf}
+use Rattle.recorder.specs.Step.{accepted, refused, stepOf}
 use Rattle.recorder.proofs.Laws.{accepted-step, refused-step}
 use Rattle.recording.specs.declared.Reading.{Reading}
 use Rattle.recording.specs.Recording.{operationAt}
@@ -75,6 +76,8 @@ accepted-number s (Platform p) room = done
 accepted-number s (Read r) room = read-number (readOutcome s r) _ (access-number s _ _)
 accepted-number s (Write r value) room = access-number s _ _
 accepted-number s Iall room = access-number s _ _
+accepted-number s (Halt source) room = done
+accepted-number s (Resume target level) room = done
 accepted-number s Unknown room = done
 
 -- Which number a step answers: that of the first line of the table whose condition holds, else an accepted operation's.
@@ -89,7 +92,7 @@ step-number s o cycles room = go (ℕ-discrete (refusalOf s o (length room)) 0)
 
 -- ---- refused-changes-nothing
 
-no-refusal : {n : ℕ} → Accepted n → 1 ≤ n → n ≤ 7 → ⊥
+no-refusal : {n : ℕ} → Accepted n → 1 ≤ n → n ≤ 8 → ⊥
 no-refusal done l u = omega arith
 no-refusal undefined l u = omega arith
 no-refusal trap2 l u = omega arith
@@ -97,7 +100,7 @@ no-refusal trap3 l u = omega arith
 
 -- A step whose answer's number is a refusal's is the refusal: state and room are as they were.
 pub refusal-answered : (s : State) (o : Operation) (cycles : ℕ) (room : List ℕ) → 1 ≤ returned (stepOf s o cycles room .answer) .number
-    → returned (stepOf s o cycles room .answer) .number ≤ 7 → stepOf s o cycles room ≡ refused (refusalOf s o (length room)) s room
+    → returned (stepOf s o cycles room .answer) .number ≤ 8 → stepOf s o cycles room ≡ refused (refusalOf s o (length room)) s room
 unfolding accepted
 refusal-answered s o cycles room l u = go (ℕ-discrete (refusalOf s o (length room)) 0)
   where
@@ -107,11 +110,11 @@ refusal-answered s o cycles room l u = go (ℕ-discrete (refusalOf s o (length r
         absurd (no-refusal (accepted-number s o room) (rw e at l) (rw e at u))
     go (no h) = refused-step s o cycles room h
 
--- `refused-changes-nothing`: whatever is lent and handed in, if the number is 1 to 7, then every state number and every room
+-- `refused-changes-nothing`: whatever is lent and handed in, if the number is 1 to 8, then every state number and every room
 -- number is as it was, and the value is 0.
 pub refused-changes-nothing : (words room : List ℕ) (code cycles a b c d : ℕ)
     → 1 ≤ stepResult words code cycles a b c d room .answer .number
-    → stepResult words code cycles a b c d room .answer .number ≤ 7
+    → stepResult words code cycles a b c d room .answer .number ≤ 8
     → stepResult words code cycles a b c d room ≡ unchanged words room (stepResult words code cycles a b c d room)
 unfolding stepResult lentStep
 refused-changes-nothing words room code cycles a b c d l u = go (loaded words) refl
@@ -124,7 +127,7 @@ refused-changes-nothing words room code cycles a b c d l u = go (loaded words) r
 
 -- The same of a recorded step.
 pub refused-recorded : (words room bytes : List ℕ) (at : ℕ) → 1 ≤ recordedResult words room bytes at .answer .number
-    → recordedResult words room bytes at .answer .number ≤ 7
+    → recordedResult words room bytes at .answer .number ≤ 8
     → recordedResult words room bytes at ≡ unchangedRecorded words room (recordedResult words room bytes at)
 unfolding recordedResult
 refused-recorded words room bytes at l u = go (loaded words) refl

@@ -12,7 +12,7 @@ use lib.ListN.{length, List·getD-eq-default}
 use Rattle.bits.proofs.Cases.{never}
 use Rattle.state.specs.declared.State.{State}
 use Rattle.state.specs.declared.Running.{Running}
-use Rattle.state.specs.Named.{E2H, PAUSED, BANK, withRunning}
+use Rattle.state.specs.Named.{E2H, PAUSED, BANK, side, withRunning}
 use Rattle.room.specs.declared.Record.{Record}
 use Rattle.room.specs.declared.Effect.{Effect}
 use Rattle.room.specs.declared.Effect.the-variants.{Keep, Push, Clear, ResetTo}
@@ -26,19 +26,19 @@ use Rattle.answer.specs.declared.Answer.the-variants.{Done, Value}
 use Rattle.answer.specs.Answer.{isDone}
 use Rattle.access.specs.Access.{readOutcome, iallOutcome, meant, shownRecord, shownNumber, registerValue}
 use Rattle.operation.specs.declared.Operation.{Operation}
-use Rattle.operation.specs.declared.Operation.the-variants.{Reset, Branch, Exception, Return, Platform, Read, Write, Iall, Unknown}
+use Rattle.operation.specs.declared.Operation.the-variants.{Reset, Branch, Exception, Return, Platform, Read, Write, Iall, Halt, Resume, Unknown}
 use Rattle.operation.specs.Refusal.{notReset, refusalOf}
-use Rattle.operation.specs.Changed.{changed}
+use Rattle.operation.specs.Clause.{changed}
 use Rattle.operation.proofs.Size.{Resets, is-reset, no-reset, resets, size-kept}
 use Rattle.operation.proofs.Laws.{accepts, sized}
-use Rattle.change.specs.Change.{passed, effectOf}
+use Rattle.change.specs.Change.{passed, effectOf, answerOf}
 use Rattle.change.proofs.Laws.{of-effect}
 use Rattle.change.proofs.Occasions.{unchanged-occasion}
 use Rattle.running.specs.Ran.{ran}
 use Rattle.recorder.specs.Result.{together}
-use Rattle.recorder.specs.Step.{answerOf, accepted, stepOf}
+use Rattle.recorder.specs.Step.{accepted, stepOf}
 use Rattle.recorder.proofs.Laws.{accepted-step, refused-step}
-use Rattle.demands.specs.After.{recordsAfter, IsEvent, branch, exception, return, entered, eventOf, IsAccess, read, write, iall}
+use Rattle.demands.specs.After.{recordsAfter, IsEvent, branch, exception, return, halt, resume, entered, eventOf, IsAccess, read, write, iall}
 
 -- ---- inside-prohibited: an event wholly inside a prohibited region changes no record
 
@@ -47,18 +47,20 @@ never-wanted true new other = refl
 never-wanted false new other = refl
 
 made-none : (s : State) (r : Running) (wanted : Bool) (e : Event) → prohibited s (e .left) ≡ true → prohibited s (e .entered) ≡ true
-    → eventEffect s r wanted e ≡ Keep
+    → eventEffect s wanted e r ≡ Keep
 unfolding becomesRecord valid
 made-none s r wanted e source target = rw (source, target) (never-wanted (wanted && not (PAUSED s)) _ _)
 
-effect-inside : (s : State) {o : Operation} (r : Running) (e : IsEvent o) → prohibited s (s .level) ≡ true
+effect-inside : (s : State) {o : Operation} (r : Running) (e : IsEvent o) → prohibited s (side s) ≡ true
     → prohibited s (entered s e) ≡ true → effectOf s o r ≡ Keep
 unfolding effectOf
 effect-inside s r branch source target = made-none s r _ _ source target
 effect-inside s r exception source target = made-none s r _ _ source target
 effect-inside s r return source target = made-none s r _ _ source target
+effect-inside s r halt source target = made-none s r _ _ source target
+effect-inside s r resume source target = made-none s r _ _ source target
 
-pub inside-prohibited : (s : State) {o : Operation} (cycles : ℕ) (room : List ℕ) (e : IsEvent o) → prohibited s (s .level) ≡ true
+pub inside-prohibited : (s : State) {o : Operation} (cycles : ℕ) (room : List ℕ) (e : IsEvent o) → prohibited s (side s) ≡ true
     → prohibited s (entered s e) ≡ true → stepOf s o cycles room .room ≡ room
 unfolding accepted roomAfter
 inside-prohibited s {o} cycles room e source target = go (ℕ-discrete (refusalOf s o (length room)) 0)
@@ -70,7 +72,7 @@ inside-prohibited s {o} cycles room e source target = go (ℕ-discrete (refusalO
 -- ---- hidden-address-zero: a record holds 0 where the address of its prohibited side would stand
 
 -- A record that was made is the one defined.
-made-record : (s : State) (r : Running) (wanted : Bool) (e : Event) (new : Record) → eventEffect s r wanted e ≡ Push new → new ≡ recordOf s r e
+made-record : (s : State) (r : Running) (wanted : Bool) (e : Event) (new : Record) → eventEffect s wanted e r ≡ Push new → new ≡ recordOf s r e
 made-record s r wanted e new h = go (becomesRecord s wanted e) h
   where
     go : (t : Bool) → cond t (Push (recordOf s r e)) Keep ≡ Push new → new ≡ recordOf s r e
@@ -83,13 +85,17 @@ unfolding effectOf
 made-of s r branch new h = made-record s r _ _ new h
 made-of s r exception new h = made-record s r _ _ new h
 made-of s r return new h = made-record s r _ _ new h
+made-of s r halt new h = made-record s r _ _ new h
+made-of s r resume new h = made-record s r _ _ new h
 
 -- It hides what is prohibited.
 pub hidden-address-zero : (s : State) {o : Operation} (r : Running) (e : IsEvent o) (new : Record) → effectOf s o r ≡ Push new
-    → Hidden s (s .level) (entered s e) new
+    → Hidden s (side s) (entered s e) new
 hidden-address-zero s r branch new h = rw (made-of s r branch new h) (record-hidden s r (eventOf s branch))
 hidden-address-zero s r exception new h = rw (made-of s r exception new h) (record-hidden s r (eventOf s exception))
 hidden-address-zero s r return new h = rw (made-of s r return new h) (record-hidden s r (eventOf s return))
+hidden-address-zero s r halt new h = rw (made-of s r halt new h) (record-hidden s r (eventOf s halt))
+hidden-address-zero s r resume new h = rw (made-of s r resume new h) (record-hidden s r (eventOf s resume))
 
 -- ... and has the event's own numbers where nothing is: addresses, level, prediction, type.
 pub captured : (s : State) {o : Operation} (r : Running) (e : IsEvent o) (new : Record) → effectOf s o r ≡ Push new → Captured s (eventOf s e) new
@@ -121,6 +127,8 @@ pushed-by s Iall r new h = go (isDone (iallOutcome s)) h
     go : (t : Bool) → cond t Clear Keep ≡ Push new → IsEvent Iall
     go true p = never (cc)
     go false p = never (cc)
+pushed-by s (Halt source) r new h = halt
+pushed-by s (Resume target level) r new h = resume
 pushed-by s Unknown r new h = never (cc)
 
 event-sized : (s : State) {o : Operation} → IsEvent o → notReset s o ≡ false → 1 ≤ s .size
@@ -128,6 +136,8 @@ unfolding notReset
 event-sized s branch h = sized (s .size) h
 event-sized s exception h = sized (s .size) h
 event-sized s return h = sized (s .size) h
+event-sized s halt h = sized (s .size) h
+event-sized s resume h = sized (s .size) h
 
 effect-records : (size : ℕ) (e : Effect) (room : List ℕ) → ((new : Record) → e ≡ Push new → 1 ≤ size)
     → needed (sizeAfterEffect size e) ≤ length room
@@ -205,17 +215,17 @@ past-the-size s kind m cycles room low h past accept done =
 
 -- ---- not-performed: an access that is not performed changes nothing but the count and its occasions
 
--- The answer is how the access ended, the running count takes the cycles, an operation that began at a prohibited level makes the next count
--- unknown, and every other number of the state and every number of the room is as it was.
+-- The answer is how the access ended, the running count takes the cycles, an operation that began at a prohibited level or in Debug state makes the
+-- next count unknown, and every other number of the state and every number of the room is as it was.
 pub not-performed : (s : State) {o : Operation} (cycles : ℕ) (room : List ℕ) → refusalOf s o (length room) ≡ 0 → IsAccess o
     → isDone (answerOf s o room) ≡ false
     → stepOf s o cycles room
-    ≡ together (answerOf s o room) (withRunning (ran (s .running) (prohibited s (s .level)) cycles) s) room
+    ≡ together (answerOf s o room) (withRunning (ran (s .running) (prohibited s (side s)) cycles) s) room
 unfolding accepted changed effectOf roomAfter answerOf passed
 not-performed s {o} cycles room h a ended = rw (accepted-step s o cycles room h) (go a ended)
   where
     go : {o : Operation} → IsAccess o → isDone (answerOf s o room) ≡ false
-        → accepted s o cycles room ≡ together (answerOf s o room) (withRunning (ran (s .running) (prohibited s (s .level)) cycles) s) room
+        → accepted s o cycles room ≡ together (answerOf s o room) (withRunning (ran (s .running) (prohibited s (side s)) cycles) s) room
     go (read {r = r}) e = rw (unchanged-occasion s (Read r) refl refl)
     go (write {r = r} {value = value}) e = rw (e, unchanged-occasion s (Write r value) (rw e) refl)
     go iall e = rw (e, unchanged-occasion s Iall refl e)

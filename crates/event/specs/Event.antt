@@ -1,6 +1,6 @@
--- What becomes of an event, which is a taken branch, an exception or an exception return: document 01, "Which events become
--- records", and of "Cycles" what a record takes; docs/MANUAL.md, "Exceptions and returns", "Records" and "Cycles". s is the
--- state before the event, by which all of it is judged.
+-- What becomes of an event, which is a taken branch, an exception, an exception return, a halt or a resume: document 01, "Which
+-- events become records", and of "Cycles" what a record takes; document 02, Five; docs/MANUAL.md, "Exceptions and returns",
+-- "Halts and resumes", "Records" and "Cycles". s is the state before the event, by which all of it is judged.
 use Prim.Native.Nat.{ℕ, _+_}
 use mathlib.Core.Bool.{Bool, cond, _&&_, _||_, not}
 use lib.Dec.{eqb}
@@ -8,7 +8,7 @@ use Rattle.bits.specs.Bits.{isSet, put}
 use Rattle.count.specs.Count.{encoded}
 use Rattle.state.specs.declared.State.{State}
 use Rattle.state.specs.declared.Running.{Running}
-use Rattle.state.specs.Named.{EL3RecordingEnabled, counting, predictionShown, PAUSED}
+use Rattle.state.specs.Named.{EL3RecordingEnabled, counting, predictionShown, PAUSED, side}
 use Rattle.region.specs.Region.{prohibited}
 use Rattle.room.specs.declared.Record.{Record}
 use Rattle.room.specs.declared.Effect.{Effect}
@@ -23,7 +23,7 @@ controlled s k level = cond (eqb level 3) (EL3RecordingEnabled s) (cond (eqb lev
 
 -- VALID, by the sides of the event that are prohibited. Both: 0, no record. The source alone: 1, half-target (R_LPLYK). The
 -- target alone: 2, half-source (R_RPVXK). Neither: 3, full (R_GSMRH, R_MLGCF). For exceptions R_YSKQK and R_YBJDJ, for returns
--- R_LMXHS and R_ZTGMW; a branch has one level for both sides.
+-- R_LMXHS and R_ZTGMW, for Debug state R_LLCTG and R_RBCFP; a branch has one level for both sides.
 unfoldable pub valid : State → Event → ℕ
 valid s e = cond (prohibited s (e .left)) (cond (prohibited s (e .entered)) 0 1) (cond (prohibited s (e .entered)) 2 3)
 
@@ -59,10 +59,16 @@ recordOf s running e =
     record { inf = BRBINF s running e; source = cond (prohibited s (e .left)) 0 (e .source); target = cond (prohibited s (e .entered)) 0 (e .target) }
 
 -- The event becomes a record: it is wanted, which is what the filter says of a branch and the control of an exception or a
--- return; recording is not paused; and one of its sides is not prohibited.
+-- return, and which a halt and a resume always are; recording is not paused; and one of its sides is not prohibited.
 unfoldable pub becomesRecord : State → Bool → Event → Bool
 becomesRecord s wanted e = wanted && not (PAUSED s) && not (eqb (valid s e) 0)
 
--- What an event does to the records: its own becomes the newest, or nothing.
-abbrev pub eventEffect : State → Running → Bool → Event → Effect
-eventEffect s running wanted e = cond (becomesRecord s wanted e) (Push (recordOf s running e)) Keep
+-- An event of this type and this mispredicted flag, from the side where the processor is to the one that it enters, with its
+-- source and its target address.
+abbrev pub eventFrom : State → ℕ → ℕ → ℕ → ℕ → ℕ → Event
+eventFrom s kind mispredicted entered source target =
+    record { kind = kind; mispredicted = mispredicted; left = side s; entered = entered; source = source; target = target }
+
+-- What an event does to the records, where the running count has its cycles in it: its own becomes the newest, or nothing.
+abbrev pub eventEffect : State → Bool → Event → Running → Effect
+eventEffect s wanted e running = cond (becomesRecord s wanted e) (Push (recordOf s running e)) Keep

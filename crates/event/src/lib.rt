@@ -1,4 +1,4 @@
-// What becomes of an event (document 01, "Which events become records"; docs/MANUAL.md, "Exceptions and returns" and "Records";
+// What becomes of an event (document 01, "Which events become records"; document 02, Five; docs/MANUAL.md, "Exceptions and returns" and "Records";
 // Arm D19.1.1 to D19.1.6).
 ghost use mathlib.Core.Path.{_≡_};
 ghost use mathlib.Core.Bool.{cond};
@@ -31,12 +31,12 @@ const MISPREDICTED: u64 = 0x20;
 
 const VALIDITY: u64 = 0x1;
 
-// A taken branch, an exception or an exception return.
+// A taken branch, an exception, an exception return, a halt or a resume.
 pub struct Event {
     // The type; that word is the language's own.
     pub kind: u64,
     pub mispredicted: u64,
-    // The level at which the event starts, and the level to which it goes.
+    // The side at which the event starts, and the side to which it goes: a level, or Debug state.
     pub left: u64,
     pub entered: u64,
     pub source: u64,

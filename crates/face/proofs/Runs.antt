@@ -17,11 +17,11 @@ use Rattle.room.specs.Room.{records, cleared, roomAfter}
 use Rattle.region.specs.Region.{enabled, prohibited}
 use Rattle.access.specs.Access.{nBit, trapped2, outcome, readOutcome, registerValue}
 use Rattle.operation.specs.Operation.{operationOf}
-use Rattle.operation.specs.Refusal.{unknownCode, notReset, outsideList, wrongLevel, roomTooShort, refusalOf}
-use Rattle.operation.specs.Changed.{changed}
-use Rattle.change.specs.Change.{occasion, passed, effectOf}
+use Rattle.operation.specs.Refusal.{unknownCode, notReset, outsideList, wrongHalted, wrongLevel, roomTooShort, refusalOf}
+use Rattle.operation.specs.Clause.{changed}
+use Rattle.change.specs.Change.{occasion, passed, effectOf, answerOf}
 use Rattle.recorder.specs.Result.{Result}
-use Rattle.recorder.specs.Step.{answerOf, accepted, stepOf}
+use Rattle.recorder.specs.Step.{accepted, stepOf}
 use Rattle.recorder.specs.Lent.{lentStep}
 use Rattle.recording.specs.declared.Numbers.{Numbers}
 use Rattle.recording.specs.declared.Reading.{Reading}
@@ -110,5 +110,5 @@ start = record { words = replicate 9 0; room = replicate 24 0 }
 
 pub closed-calls : (loaded (replicate 9 0) ≡ Held fresh)
     × (stepCall (calls start (numbers 0 0 8 0 0 0 ∷ [])) (numbers 5 3 0 0 0 0) .answer ≡ record { number = 0; value = 0x5008 })
-unfolding loaded judged stored unavailable sound calls stepResult lentStep stepOf accepted answerOf refusalOf unknownCode notReset outsideList wrongLevel roomTooShort changed occasion passed effectOf roomAfter cleared records readOutcome outcome trapped2 nBit registerValue operationOf prohibited enabled
+unfolding loaded judged stored unavailable sound calls stepResult lentStep stepOf accepted answerOf refusalOf unknownCode notReset outsideList wrongHalted wrongLevel roomTooShort changed occasion passed effectOf roomAfter cleared records readOutcome outcome trapped2 nBit registerValue operationOf prohibited enabled
 closed-calls = (refl, refl)

@@ -35,6 +35,13 @@ CONDDIR = 8
 abbrev pub exceptionReturn : ℕ
 exceptionReturn = 7
 
+-- What the records of a halt and of a resume show: Debug halt, and Debug state exit. No filter bit belongs to them either.
+abbrev pub debugHalt : ℕ
+debugHalt = 0x21
+
+abbrev pub debugExit : ℕ
+debugExit = 0x39
+
 -- The six branch types.
 abbrev pub branchTypes : List ℕ
 branchTypes = DIRECT ∷ INDIRECT ∷ DIRCALL ∷ INDCALL ∷ RTN ∷ CONDDIR ∷ []

@@ -10,7 +10,7 @@ use Rattle.room.specs.Room.{needed}
 use Rattle.operation.specs.declared.Operation.{Operation}
 use Rattle.operation.specs.Refusal.{notReset}
 use Rattle.operation.proofs.Laws.{Accepts, sized}
-use Rattle.operation.specs.Changed.{changed}
+use Rattle.operation.specs.Clause.{changed}
 use Rattle.operation.proofs.Size.{Resets, is-reset, no-reset, resets, size-kept}
 use Rattle.change.specs.Change.{effectOf}
 use Rattle.change.proofs.Laws.{of-effect}

@@ -14,10 +14,10 @@ use Rattle.room.specs.Room.{records, numbered, pushed, cleared, roomAfter}
 use Rattle.region.specs.Region.{enabled, prohibited}
 use Rattle.event.specs.Event.{controlled, valid, countUnknown, MPRED, BRBINF, recordOf, becomesRecord}
 use Rattle.access.specs.Access.{nBit, trapped2, outcome, readOutcome, writeOutcome, iallOutcome, registerWritten}
-use Rattle.operation.specs.Refusal.{unknownCode, notReset, outsideList, wrongLevel, roomTooShort, refusalOf}
-use Rattle.operation.specs.Changed.{changed}
-use Rattle.change.specs.Change.{occasion, passed, effectOf}
-use Rattle.recorder.specs.Step.{answerOf, accepted, stepOf}
+use Rattle.operation.specs.Refusal.{unknownCode, notReset, outsideList, wrongHalted, wrongLevel, roomTooShort, refusalOf}
+use Rattle.operation.specs.Clause.{changed}
+use Rattle.change.specs.Change.{occasion, passed, effectOf, answerOf}
+use Rattle.recorder.specs.Step.{accepted, stepOf}
 use Rattle.history.specs.History.{Timed, Machine, stepped, run, shown, CCU, CC, notedStep, notedRun, history, notesOf, stretch, endSum, S, U, T, acceptedCycles, justMade}
 use Rattle.history.specs.Events.{restarts, howMany, Between}
 use Rattle.history.proofs.Clock.{exact-time}
@@ -63,7 +63,7 @@ pub closed-run : (_≡_ {A = Bool × Bool × ℕ × ℕ × ℕ × ℕ} (stretch 
     (true, false, 1324, 1327, 1326, 1326))
     × (howMany restarts (run start before) after ≡ 0) × justMade (history start before) × justMade (history start session)
     × (length (notesOf start session) ≡ 2 + length (notesOf start before))
-unfolding bitLength exponent mantissa encoded smallestOf largestOf decoded unavailable sound records numbered pushed cleared roomAfter enabled prohibited filterBit passesFilter controlled valid countUnknown MPRED BRBINF recordOf becomesRecord nBit trapped2 outcome readOutcome writeOutcome iallOutcome registerWritten operationOf unknownCode notReset outsideList wrongLevel roomTooShort refusalOf changed occasion passed effectOf answerOf accepted stepOf stepped run notedStep notedRun stretch endSum acceptedCycles howMany
+unfolding bitLength exponent mantissa encoded smallestOf largestOf decoded unavailable sound records numbered pushed cleared roomAfter enabled prohibited filterBit passesFilter controlled valid countUnknown MPRED BRBINF recordOf becomesRecord nBit trapped2 outcome readOutcome writeOutcome iallOutcome registerWritten operationOf unknownCode notReset outsideList wrongHalted wrongLevel roomTooShort refusalOf changed occasion passed effectOf answerOf accepted stepOf stepped run notedStep notedRun stretch endSum acceptedCycles howMany
 closed-run = (refl, refl, refl, refl, refl)
 
 closed-time : T (notesOf start session) 0 2 ≡ acceptedCycles (run start before) after
@@ -77,11 +77,11 @@ abbrev longer : List Timed
 longer = before ++ (after ++ more)
 
 pub closed-stretch : stretch (shown (run start longer)) 1 2 ≡ true
-unfolding bitLength exponent mantissa encoded smallestOf largestOf decoded unavailable sound records numbered pushed cleared roomAfter enabled prohibited filterBit passesFilter controlled valid countUnknown MPRED BRBINF recordOf becomesRecord nBit trapped2 outcome readOutcome writeOutcome iallOutcome registerWritten operationOf unknownCode notReset outsideList wrongLevel roomTooShort refusalOf changed occasion passed effectOf answerOf accepted stepOf stepped run notedStep notedRun stretch endSum acceptedCycles howMany
+unfolding bitLength exponent mantissa encoded smallestOf largestOf decoded unavailable sound records numbered pushed cleared roomAfter enabled prohibited filterBit passesFilter controlled valid countUnknown MPRED BRBINF recordOf becomesRecord nBit trapped2 outcome readOutcome writeOutcome iallOutcome registerWritten operationOf unknownCode notReset outsideList wrongHalted wrongLevel roomTooShort refusalOf changed occasion passed effectOf answerOf accepted stepOf stepped run notedStep notedRun stretch endSum acceptedCycles howMany
 closed-stretch = refl
 
 pub closed-between : Between start longer 1 2
-unfolding bitLength exponent mantissa encoded smallestOf largestOf decoded unavailable sound records numbered pushed cleared roomAfter enabled prohibited filterBit passesFilter controlled valid countUnknown MPRED BRBINF recordOf becomesRecord nBit trapped2 outcome readOutcome writeOutcome iallOutcome registerWritten operationOf unknownCode notReset outsideList wrongLevel roomTooShort refusalOf changed occasion passed effectOf answerOf accepted stepOf stepped run notedStep notedRun stretch endSum acceptedCycles howMany
+unfolding bitLength exponent mantissa encoded smallestOf largestOf decoded unavailable sound records numbered pushed cleared roomAfter enabled prohibited filterBit passesFilter controlled valid countUnknown MPRED BRBINF recordOf becomesRecord nBit trapped2 outcome readOutcome writeOutcome iallOutcome registerWritten operationOf unknownCode notReset outsideList wrongHalted wrongLevel roomTooShort refusalOf changed occasion passed effectOf answerOf accepted stepOf stepped run notedStep notedRun stretch endSum acceptedCycles howMany
 closed-between =
     record {
       before = before;
@@ -126,5 +126,5 @@ occasions =
 -- CCU and CC of the records, newest first.
 pub closed-occasions : map {B = ℕ × ℕ} (λ (r : Record). (CCU r, CC r)) (shown (run start occasions))
     ≡ (0, 75) ∷ (0, 60) ∷ (1, 0) ∷ (0, 40) ∷ (1, 0) ∷ (0, 20) ∷ (1, 0) ∷ (1, 0) ∷ []
-unfolding bitLength exponent mantissa encoded smallestOf largestOf decoded unavailable sound records numbered pushed cleared roomAfter enabled prohibited filterBit passesFilter controlled valid countUnknown MPRED BRBINF recordOf becomesRecord nBit trapped2 outcome readOutcome writeOutcome iallOutcome registerWritten operationOf unknownCode notReset outsideList wrongLevel roomTooShort refusalOf changed occasion passed effectOf answerOf accepted stepOf stepped run notedStep notedRun stretch endSum acceptedCycles howMany
+unfolding bitLength exponent mantissa encoded smallestOf largestOf decoded unavailable sound records numbered pushed cleared roomAfter enabled prohibited filterBit passesFilter controlled valid countUnknown MPRED BRBINF recordOf becomesRecord nBit trapped2 outcome readOutcome writeOutcome iallOutcome registerWritten operationOf unknownCode notReset outsideList wrongHalted wrongLevel roomTooShort refusalOf changed occasion passed effectOf answerOf accepted stepOf stepped run notedStep notedRun stretch endSum acceptedCycles howMany
 closed-occasions = refl

@@ -15,7 +15,7 @@ use Rattle.room.specs.declared.Effect.{Effect}
 use Rattle.room.specs.Room.{needed, records, numbered, roomAfter}
 use Rattle.room.proofs.Laws.{records-pushed, records-cleared}
 use Rattle.operation.specs.declared.Operation.the-variants.{Reset}
-use Rattle.operation.specs.Changed.{changed}
+use Rattle.operation.specs.Clause.{changed}
 use Rattle.change.specs.Change.{passed, effectOf, runningAfter}
 use Rattle.recorder.specs.Step.{accepted, stepOf}
 use Rattle.history.specs.History.{Timed, Machine, stepped, run, shown, Note, Noted, isAccepted, clockAfter, notesAfter, notedStep, notedRun, history, notesOf, FromReset, reset, unset, note, isValid, isCounted, stretch, endSum, S, U, T, Within}

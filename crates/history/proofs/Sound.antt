@@ -9,22 +9,22 @@ use mathlib.Core.List.{List, [], _∷_}
 use lib.Bits.{bitAnd, and-step}
 use lib.Dec.{eqb, leb, ltb}
 use lib.ListN.{length}
-use borrow.Author.Tests.{le-leb, le-ltb, ltb-true, ltb-false, eq-eqb, eqb-true}
+use borrow.Author.Tests.{le-leb, le-ltb, ltb-false, eq-eqb, eqb-true}
 use Rattle.bits.specs.Bits.{within, oneOf}
 use Rattle.state.specs.declared.State.{State}
 use Rattle.state.specs.declared.Running.{Running}
-use Rattle.state.specs.Named.{sizes, atLevel, withPlatform, withRunning}
+use Rattle.state.specs.Named.{sizes, atLevel, resumedAt, withPlatform, withRunning}
 use Rattle.state.specs.Sound.{platformMask, controlMask, filterMask, cap, unavailable, sound}
 use Rattle.room.specs.declared.Effect.{Effect}
 use Rattle.room.specs.declared.Effect.the-variants.{Keep, Push, Clear, ResetTo}
 use Rattle.answer.specs.Answer.{isDone}
 use Rattle.access.specs.Access.{writeOutcome, meant, registerWritten}
 use Rattle.operation.specs.declared.Operation.{Operation}
-use Rattle.operation.specs.declared.Operation.the-variants.{Reset, Branch, Exception, Return, Platform, Read, Write, Iall, Unknown}
+use Rattle.operation.specs.declared.Operation.the-variants.{Reset, Branch, Exception, Return, Platform, Read, Write, Iall, Halt, Resume, Unknown}
 use Rattle.room.specs.Room.{needed}
-use Rattle.operation.specs.Refusal.{unknownCode, notReset, outsideList, wrongLevel, roomTooShort, firstThat, refusalOf}
+use Rattle.operation.specs.Refusal.{unknownCode, notReset, outsideList, wrongHalted, wrongLevel, roomTooShort, firstThat, refusalOf}
 use Rattle.bits.proofs.Cases.{either, never}
-use Rattle.operation.specs.Changed.{changed}
+use Rattle.operation.specs.Clause.{changed}
 use Rattle.operation.proofs.Size.{Resets, is-reset, no-reset, resets, size-kept}
 use Rattle.change.specs.Change.{occasion, passed, effectOf, runningAfter}
 use Rattle.recorder.specs.Step.{accepted, stepOf}
@@ -52,6 +52,7 @@ record Set (s : State) : Type 0 where
   brbcr2 : within controlMask (s .brbcr2) ≡ true
   brbfcr : within filterMask (s .brbfcr) ≡ true
   isOpen : unavailable s (s .level) ≡ false
+  halted : leb (s .halted) 1 ≡ true
 
 record Counts (r : Running) : Type 0 where
   count : leb (r .count) cap ≡ true
@@ -63,7 +64,7 @@ lines s h = search each depth 12
 
 sound-of : (s : State) (r : Running) → Set s → Counts r → sound (withRunning r s) ≡ true
 unfolding sound unavailable
-sound-of s r a b = rw (a .level, a .size, a .v1p1, a .p, a .brbcr1, a .brbcr2, a .brbfcr, a .isOpen, b .count, b .unknown)
+sound-of s r a b = rw (a .level, a .size, a .v1p1, a .p, a .brbcr1, a .brbcr2, a .brbfcr, a .isOpen, b .count, b .unknown, a .halted)
 
 sized : (size : ℕ) → oneOf sizes size ≡ true → oneOf (0 ∷ sizes) size ≡ true
 sized size e = rw e
@@ -71,6 +72,10 @@ sized size e = rw e
 entered : (s : State) (level : ℕ) → ltb 3 level ≡ false → unavailable s level ≡ false → Set s → Set (atLevel level s)
 unfolding unavailable
 entered s level low permitted t = let high : leb level 3 ≡ true = le-leb level 3 (ltb-false 3 level low) in search
+
+resumed : (s : State) (level : ℕ) → ltb 3 level ≡ false → unavailable s level ≡ false → Set s → Set (resumedAt level s)
+unfolding unavailable
+resumed s level low permitted t = let high : leb level 3 ≡ true = le-leb level 3 (ltb-false 3 level low) in search
 
 within-kept : (f : Bool) (mask value old : ℕ) → within mask old ≡ true → within mask (cond f (bitAnd value mask) old) ≡ true
 within-kept true mask value old h = eq-eqb _ _ (kept-again value value mask (le-refl value))
@@ -101,6 +106,8 @@ set-after {s} (Platform p) a t =
 set-after (Read r) a t = t
 set-after {s} (Write r value) a t = written s (isDone (writeOutcome s r)) (meant s r) value t
 set-after Iall a t = t
+set-after {s} (Halt source) a t = search
+set-after {s} (Resume target level) a t = resumed s level (search each) (search each) t
 set-after Unknown a t = t
 
 counts-passed : (s : State) (o : Operation) (cycles : ℕ) → Counts (s .running) → Counts (passed s o cycles)
@@ -141,18 +148,18 @@ unfolding sound unavailable
 sound-from unset = refl
 sound-from (reset {m = m} {size = size} {v1p1 = v1p1} e) = accepts-if (m .state) (Reset size v1p1) (length (m .room)) e .is-sound
 
-below : (t : Bool) (n rest : ℕ) → ltb n 7 ≡ true → ltb rest 7 ≡ true → ltb (cond t n rest) 7 ≡ true
-below true n rest h k = h
-below false n rest h k = k
+other : (t : Bool) (n rest : ℕ) → eqb n 7 ≡ false → eqb rest 7 ≡ false → eqb (cond t n rest) 7 ≡ false
+other true n rest h k = h
+other false n rest h k = k
 
-below-7 : (s : State) (o : Operation) (room : ℕ) → sound s ≡ true → refusalOf s o room < 7
+not-7 : (s : State) (o : Operation) (room : ℕ) → sound s ≡ true → eqb (refusalOf s o room) 7 ≡ false
 unfolding refusalOf
-below-7 s o room h = ltb-true (refusalOf s o room) 7 (rw h (below (unknownCode o) 2 _ refl (search below depth 8)))
+not-7 s o room h = rw h (other (unknownCode o) 2 _ refl (search other depth 9))
 
 -- In a sequence from a reset, and so from the fresh state, refusal 7 is never given.
 pub never-unsound : (m : Machine) (list : List Timed) → FromReset m list → (o : Operation)
     → refusalOf (run m list .state) o (length (run m list .room)) ≢ 7
-never-unsound m list from o e = omega (arith, below-7 (run m list .state) o (length (run m list .room)) (sound-run m list (sound-from from)))
+never-unsound m list from o e = never (cc (rw e at (not-7 (run m list .state) o (length (run m list .room)) (sound-run m list (sound-from from)))))
 
 -- ---- The replay program's room: 192 numbers are enough for any size.
 
@@ -187,18 +194,19 @@ size-bound s o h listed = go (resets o) listed
     go (is-reset {size = size}) l = largest size (sized size (search each))
     go (no-reset {o} is) l = rw (size-kept s o is) (largest-size s h)
 
-not-six : (a b c d e f : Bool) → (d ≡ false → f ≡ false)
-    → firstThat ((7, a) ∷ (2, b) ∷ (3, c) ∷ (4, d) ∷ (5, e) ∷ (6, f) ∷ []) ≢ 6
-not-six true b c d e f h p = omega arith
-not-six false true c d e f h p = omega arith
-not-six false false true d e f h p = omega arith
-not-six false false false true e f h p = omega arith
-not-six false false false false true f h p = omega arith
-not-six false false false false false f h p = let none = h refl in omega (arith, rw none at p)
+not-six : (a b c d e f g : Bool) → (d ≡ false → g ≡ false)
+    → firstThat ((7, a) ∷ (2, b) ∷ (3, c) ∷ (4, d) ∷ (8, e) ∷ (5, f) ∷ (6, g) ∷ []) ≢ 6
+not-six true b c d e f g h p = omega arith
+not-six false true c d e f g h p = omega arith
+not-six false false true d e f g h p = omega arith
+not-six false false false true e f g h p = omega arith
+not-six false false false false true f g h p = omega arith
+not-six false false false false false true g h p = omega arith
+not-six false false false false false false g h p = let none = h refl in omega (arith, rw none at p)
 
 -- With room for 64 records no operation on a sound state is refused for its room.
 pub never-short : (s : State) (o : Operation) → sound s ≡ true → refusalOf s o 192 ≢ 6
 unfolding refusalOf roomTooShort
 never-short s o h =
-    not-six (not (sound s)) (unknownCode o) (notReset s o) (outsideList o) (wrongLevel s o) (ltb 192 (needed (changed s o .size)))
+    not-six (not (sound s)) (unknownCode o) (notReset s o) (outsideList o) (wrongHalted s o) (wrongLevel s o) (ltb 192 (needed (changed s o .size)))
     (λ listed. le-ltb 192 (needed (changed s o .size)) (omega (arith, size-bound s o h listed)))

@@ -17,10 +17,10 @@ use Rattle.region.specs.Region.{enabled, prohibited}
 use Rattle.event.specs.Event.{controlled, valid, countUnknown, MPRED, BRBINF, recordOf, becomesRecord}
 use Rattle.access.specs.Access.{nBit, trapped2, outcome, readOutcome, writeOutcome, iallOutcome, shownRecord, shownNumber, registerValue, registerWritten}
 use Rattle.operation.specs.Operation.{operationOf}
-use Rattle.operation.specs.Refusal.{unknownCode, notReset, outsideList, wrongLevel, roomTooShort, refusalOf}
-use Rattle.operation.specs.Changed.{changed}
-use Rattle.change.specs.Change.{occasion, passed, effectOf}
-use Rattle.recorder.specs.Step.{answerOf, accepted, stepOf}
+use Rattle.operation.specs.Refusal.{unknownCode, notReset, outsideList, wrongHalted, wrongLevel, roomTooShort, refusalOf}
+use Rattle.operation.specs.Clause.{changed}
+use Rattle.change.specs.Change.{occasion, passed, effectOf, answerOf}
+use Rattle.recorder.specs.Step.{accepted, stepOf}
 use Rattle.recording.specs.Recording.{numbers, fieldCount, numbersAt, operationAt, bytesOfAll, operationBytes}
 use Rattle.recording.specs.Operations.{recordingBytes}
 use Rattle.recording.specs.RecordedStep.{recordedStep}
@@ -85,5 +85,5 @@ cases =
 
 -- The fact: what the definitions make of each input is what must come out.
 pub marked : map computed cases ≡ cases
-unfolding bitLength exponent mantissa encoded smallestOf largestOf decoded numberIn numberAt bytesIn bytesOf unavailable sound judged records numbered pushed cleared roomAfter enabled prohibited filterBit passesFilter controlled valid countUnknown MPRED BRBINF recordOf becomesRecord nBit trapped2 outcome readOutcome writeOutcome iallOutcome shownRecord shownNumber registerValue registerWritten operationOf unknownCode notReset outsideList wrongLevel roomTooShort refusalOf changed occasion passed effectOf answerOf accepted stepOf fieldCount numbersAt operationAt bytesOfAll operationBytes recordingBytes recordedStep digits decimalCount decimal lineOf replayFrom replayOf
+unfolding bitLength exponent mantissa encoded smallestOf largestOf decoded numberIn numberAt bytesIn bytesOf unavailable sound judged records numbered pushed cleared roomAfter enabled prohibited filterBit passesFilter controlled valid countUnknown MPRED BRBINF recordOf becomesRecord nBit trapped2 outcome readOutcome writeOutcome iallOutcome shownRecord shownNumber registerValue registerWritten operationOf unknownCode notReset outsideList wrongHalted wrongLevel roomTooShort refusalOf changed occasion passed effectOf answerOf accepted stepOf fieldCount numbersAt operationAt bytesOfAll operationBytes recordingBytes recordedStep digits decimalCount decimal lineOf replayFrom replayOf
 marked = refl

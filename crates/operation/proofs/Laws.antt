@@ -12,14 +12,15 @@ use Rattle.state.specs.declared.State.{State}
 use Rattle.state.specs.Sound.{sound}
 use Rattle.room.specs.Room.{needed}
 use Rattle.operation.specs.declared.Operation.{Operation}
-use Rattle.operation.specs.Changed.{changed}
-use Rattle.operation.specs.Refusal.{unknownCode, notReset, outsideList, wrongLevel, roomTooShort, firstThat, table, refusalOf}
+use Rattle.operation.specs.Clause.{changed}
+use Rattle.operation.specs.Refusal.{unknownCode, notReset, outsideList, wrongHalted, wrongLevel, roomTooShort, firstThat, table, refusalOf}
 
 pub record Accepts (s : State) (o : Operation) (room : ℕ) : Type 0 where
   pub is-sound : sound s ≡ true
   pub known-code : unknownCode o ≡ false
   pub was-reset : notReset s o ≡ false
   pub in-list : outsideList o ≡ false
+  pub halted-or-not : wrongHalted s o ≡ false
   pub permitted : wrongLevel s o ≡ false
   pub room-enough : needed (changed s o .size) ≤ room
 
@@ -35,15 +36,17 @@ accepts s o room h =
     let (b, h2) = no-line 1 (unknownCode o) (drop 2 (table s o room)) h7 in
     let (c, h3) = no-line 2 (notReset s o) (drop 3 (table s o room)) h2 in
     let (d, h4) = no-line 3 (outsideList o) (drop 4 (table s o room)) h3 in
-    let (e, h5) = no-line 4 (wrongLevel s o) (drop 5 (table s o room)) h4 in
-    let (f, h6) = no-line 5 (roomTooShort s o room) (drop 6 (table s o room)) h5 in
+    let (e, h8) = no-line 7 (wrongHalted s o) (drop 5 (table s o room)) h4 in
+    let (f, h5) = no-line 4 (wrongLevel s o) (drop 6 (table s o room)) h8 in
+    let (g, h6) = no-line 5 (roomTooShort s o room) (drop 7 (table s o room)) h5 in
     record {
       is-sound = not-false (sound s) a;
       known-code = b;
       was-reset = c;
       in-list = d;
-      permitted = e;
-      room-enough = ltb-false room (needed (changed s o .size)) f;
+      halted-or-not = e;
+      permitted = f;
+      room-enough = ltb-false room (needed (changed s o .size)) g;
     }
 
 -- Where there was a reset, the size is not 0.

@@ -8,9 +8,9 @@ use Rattle.answer.specs.Answer.{isDone}
 use Rattle.state.specs.declared.State.{State}
 use Rattle.access.specs.Access.{writeOutcome, meant, registerWritten}
 use Rattle.operation.specs.declared.Operation.{Operation}
-use Rattle.operation.specs.declared.Operation.the-variants.{Reset, Branch, Exception, Return, Platform, Read, Write, Iall, Unknown}
+use Rattle.operation.specs.declared.Operation.the-variants.{Reset, Branch, Exception, Return, Platform, Read, Write, Iall, Halt, Resume, Unknown}
 use Rattle.operation.specs.Operation.{codeOf}
-use Rattle.operation.specs.Changed.{changed}
+use Rattle.operation.specs.Clause.{changed}
 
 -- An operation is a reset, or its code is not 0.
 pub data Resets : Operation → Type 0 where
@@ -26,6 +26,8 @@ resets (Platform p) = no-reset refl
 resets (Read r) = no-reset refl
 resets (Write r value) = no-reset refl
 resets Iall = no-reset refl
+resets (Halt source) = no-reset refl
+resets (Resume target level) = no-reset refl
 resets Unknown = no-reset refl
 
 pub size-kept : (s : State) (o : Operation) → eqb (codeOf o) 0 ≡ false → changed s o .size ≡ s .size
@@ -42,4 +44,6 @@ size-kept s (Write r value) h = go (isDone (writeOutcome s r))
     go true = refl
     go false = refl
 size-kept s Iall h = refl
+size-kept s (Halt source) h = refl
+size-kept s (Resume target level) h = refl
 size-kept s Unknown h = refl

@@ -1,3 +1,3 @@
 pub mod Operation
-pub mod Changed
+pub mod Clause
 pub mod Refusal

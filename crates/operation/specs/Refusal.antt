@@ -1,20 +1,20 @@
 -- Which operations are refused: document 01, "Refusal numbers, in order of checking", each line of its table as a condition;
--- docs/MANUAL.md, "Refusals". (Refusal 1 is the reader's of recordings.)
+-- document 02, Five; docs/MANUAL.md, "Refusals". (Refusal 1 is the reader's of recordings.)
 use Prim.Native.Nat.{ℕ}
 use mathlib.Core.Bool.{Bool, false, cond, _&&_, _||_, not}
 use mathlib.Core.List.{List, [], _∷_}
 use lib.Dec.{eqb, ltb}
 use Rattle.bits.specs.Bits.{within, oneOf}
 use Rattle.state.specs.declared.State.{State}
-use Rattle.state.specs.Named.{sizes}
+use Rattle.state.specs.Named.{isHalted, sizes}
 use Rattle.state.specs.Sound.{platformMask, unavailable, sound}
 use Rattle.room.specs.Room.{needed}
 use Rattle.filter.specs.Filter.{branchTypes, exceptionTypes}
 use Rattle.access.specs.Access.{isRegister}
 use Rattle.operation.specs.Operation.{lastCode, codeOf}
-use Rattle.operation.specs.Changed.{changed}
+use Rattle.operation.specs.Clause.{changed}
 use Rattle.operation.specs.declared.Operation.{Operation}
-use Rattle.operation.specs.declared.Operation.the-variants.{Reset, Branch, Exception, Return, Platform, Read, Write, Iall, Unknown}
+use Rattle.operation.specs.declared.Operation.the-variants.{Reset, Branch, Exception, Return, Platform, Read, Write, Iall, Halt, Resume, Unknown}
 
 -- Refusal 2: no operation has the code.
 unfoldable pub unknownCode : Operation → Bool
@@ -35,10 +35,17 @@ outsideList (Platform p) = not (within platformMask p)
 outsideList (Read r) = not (isRegister r)
 outsideList (Write r value) = not (isRegister r)
 outsideList Iall = false
+outsideList (Halt source) = false
+outsideList (Resume target level) = ltb 3 level
 outsideList Unknown = false
 
+-- Refusal 8: while the processor is halted nothing runs, so that no branch, exception, return or second halt happens (codes 1, 2,
+-- 3 and 8); and only a processor that is halted resumes (code 9). Document 02, Five.
+unfoldable pub wrongHalted : State → Operation → Bool
+wrongHalted s o = isHalted s && oneOf (1 ∷ 2 ∷ 3 ∷ 8 ∷ []) (codeOf o) || not (isHalted s) && eqb (codeOf o) 9
+
 -- Refusal 5: the level does not let the operation happen. An exception goes neither down nor to EL0; a return does not come
--- from EL0 and does not go up; neither goes to a level that is not there; and P is set at EL3 alone.
+-- from EL0 and does not go up; neither goes to a level that is not there, nor does a resume; and P is set at EL3 alone.
 unfoldable pub wrongLevel : State → Operation → Bool
 wrongLevel s (Reset size v1p1) = false
 wrongLevel s (Branch kind mispredicted source target) = false
@@ -48,6 +55,8 @@ wrongLevel s (Platform p) = not (eqb (s .level) 3)
 wrongLevel s (Read r) = false
 wrongLevel s (Write r value) = false
 wrongLevel s Iall = false
+wrongLevel s (Halt source) = false
+wrongLevel s (Resume target level) = unavailable s level
 wrongLevel s Unknown = false
 
 -- Refusal 6: the lent room, of so many numbers, has too few for the size after the operation.
@@ -63,7 +72,7 @@ firstThat (line ∷ lines) = cond (line .1) (line .0) (firstThat lines)
 -- judged when it is loaded.)
 abbrev pub table : State → Operation → ℕ → List (ℕ × Bool)
 table s o roomLength =
-    (7, not (sound s)) ∷ (2, unknownCode o) ∷ (3, notReset s o) ∷ (4, outsideList o) ∷ (5, wrongLevel s o) ∷ (6, roomTooShort s o roomLength) ∷ []
+    (7, not (sound s)) ∷ (2, unknownCode o) ∷ (3, notReset s o) ∷ (4, outsideList o) ∷ (8, wrongHalted s o) ∷ (5, wrongLevel s o) ∷ (6, roomTooShort s o roomLength) ∷ []
 
 -- The number of an operation's refusal, or 0 where it is accepted.
 unfoldable pub refusalOf : State → Operation → ℕ → ℕ

@@ -1,10 +1,10 @@
-// The operations (document 01, "Operations") and their refusals ("Refusal numbers, in order of checking"; docs/MANUAL.md,
-// "Operations" and "Refusals").
+// The operations (document 01, "Operations"; document 02, Five) and their refusals ("Refusal numbers, in order of checking";
+// docs/MANUAL.md, "Operations" and "Refusals").
 ghost use mathlib.Core.Path.{_≡_};
 ghost use mathlib.Core.List.{[], _∷_};
 ghost use Rattle.operation.specs.Operation.{operationOf, codeOf};
-ghost use Rattle.operation.specs.Changed.{changed};
-ghost use Rattle.operation.specs.Refusal.{unknownCode, notReset, outsideList, wrongLevel, roomTooShort, firstThat, refusalOf};
+ghost use Rattle.operation.specs.Clause.{changed};
+ghost use Rattle.operation.specs.Refusal.{unknownCode, notReset, outsideList, wrongHalted, wrongLevel, roomTooShort, firstThat, refusalOf};
 use access::is_register;
 use filter::BranchType;
 use filter::is_exception_type;
@@ -13,7 +13,7 @@ use state::State;
 use state::is_size;
 
 // The largest code that an operation has: refusal 2, the reader and the writer of recordings go by it.
-pub const LAST_CODE: u64 = 7;
+pub const LAST_CODE: u64 = 9;
 
 // One operation and its fields, which are numbers as handed in: refusal 4 judges them. (`kind` is a type; that word is the
 // language's own.)
@@ -51,6 +51,13 @@ pub enum Operation {
         value: u64,
     },
     Iall,
+    Halt {
+        source: u64,
+    },
+    Resume {
+        target: u64,
+        target_level: u64,
+    },
     // A code above the last.
     Unknown,
 }
@@ -86,6 +93,11 @@ pub fn operation_of(code: u64, a: u64, b: u64, c: u64, d: u64) -> Operation
             value: b,
         },
         7 => Operation::Iall,
+        8 => Operation::Halt { source: a },
+        9 => Operation::Resume {
+            target: a,
+            target_level: b,
+        },
         _ => Operation::Unknown,
     }
 }
@@ -103,6 +115,8 @@ fn code_of(o: Operation) -> u64
         Operation::Read { .. } => 5,
         Operation::Write { .. } => 6,
         Operation::Iall => 7,
+        Operation::Halt { .. } => 8,
+        Operation::Resume { .. } => 9,
         Operation::Unknown => LAST_CODE + 1,
     }
 }
@@ -135,8 +149,19 @@ fn outside_list(o: Operation) -> bool
         Operation::Read { register } => !is_register(register),
         Operation::Write { register, .. } => !is_register(register),
         Operation::Iall => false,
+        Operation::Halt { .. } => false,
+        Operation::Resume { target_level, .. } => 3 < target_level,
         Operation::Unknown => false,
     }
+}
+
+// 8: nothing runs while the processor is halted, and only a halted one resumes.
+fn wrong_halted(s: State, o: Operation) -> bool
+    ensures { λ r. ⌜ r ≡ wrongHalted s o ⌝ }
+{
+    let code = code_of(o);
+    let halted = s.halted == 1;
+    halted & ((code == 8) | (code == 3) | (code == 2) | (code == 1)) | !halted & (code == 9)
 }
 
 // 5: the level does not let the operation happen.
@@ -158,6 +183,8 @@ fn wrong_level(s: State, o: Operation) -> bool
         Operation::Read { .. } => false,
         Operation::Write { .. } => false,
         Operation::Iall => false,
+        Operation::Halt { .. } => false,
+        Operation::Resume { target_level, .. } => s.unavailable(target_level),
         Operation::Unknown => false,
     }
 }
@@ -175,6 +202,8 @@ fn size_after(s: State, o: Operation) -> u64
         Operation::Read { .. } => s.size,
         Operation::Write { .. } => s.size,
         Operation::Iall => s.size,
+        Operation::Halt { .. } => s.size,
+        Operation::Resume { .. } => s.size,
         Operation::Unknown => s.size,
     }
 }
@@ -204,12 +233,15 @@ fn room_too_short(s: State, o: Operation, room: usize) -> bool
     (room as u64) / 3 < size
 }
 
-// The table's last three lines, in its order.
+// The table's last four lines, in its order.
 fn content_refusal(s: State, o: Operation, room: usize) -> u64
-    ensures { λ r. ⌜ r ≡ firstThat ((4, outsideList o) ∷ (5, wrongLevel s o) ∷ (6, roomTooShort s o room) ∷ []) ⌝ }
+    ensures { λ r. ⌜ r ≡ firstThat ((4, outsideList o) ∷ (8, wrongHalted s o) ∷ (5, wrongLevel s o) ∷ (6, roomTooShort s o room) ∷ []) ⌝ }
 {
     if outside_list(o) {
         return 4;
+    }
+    if wrong_halted(s, o) {
+        return 8;
     }
     if wrong_level(s, o) {
         return 5;

@@ -94,7 +94,13 @@ length-text x =
           simp length-append (omega arith),
           (
             simp length-append (omega arith),
-            (simp length-append (omega arith), (simp length-append (omega arith), (simp length-append (omega arith), tt))),
+            (
+              simp length-append (omega arith),
+              (
+                simp length-append (omega arith),
+                (simp length-append (omega arith), (simp length-append (omega arith), (simp length-append (omega arith), tt))),
+              ),
+            ),
           ),
         ),
       ),

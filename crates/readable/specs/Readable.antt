@@ -108,6 +108,14 @@ writeText x = bytesOfText "write" ++ cyclesField x ++ registerField (x .a) ++ fi
 abbrev pub iallText : Numbers → List ℕ
 iallText x = bytesOfText "iall" ++ cyclesField x
 
+-- A halt.
+abbrev pub haltText : Numbers → List ℕ
+haltText x = bytesOfText "halt" ++ cyclesField x ++ field "source" (prefixed (x .a))
+
+-- A resume.
+abbrev pub resumeText : Numbers → List ℕ
+resumeText x = bytesOfText "resume" ++ cyclesField x ++ field "target" (prefixed (x .a)) ++ field "target_level" (decimal (x .b))
+
 -- The operations by their code.
 abbrev pub texts : Numbers → List (ℕ × List ℕ)
 texts x =
@@ -118,6 +126,8 @@ texts x =
     ∷ (4, platformText x)
     ∷ (5, readText x)
     ∷ (6, writeText x)
+    ∷ (8, haltText x)
+    ∷ (9, resumeText x)
     ∷ []
 
 -- The text of an operation; a code that is none of these is an IALL's.

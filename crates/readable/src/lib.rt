@@ -7,7 +7,7 @@ ghost use lib.ListN.{length, take};
 ghost use lib.Dec.{leb};
 ghost use Rattle.text.specs.Text.{decimal};
 ghost use Rattle.notation.specs.Text.{spaced, numbersLine};
-ghost use Rattle.readable.specs.Readable.{Put, prefixed, cyclesField, branchTypeField, groupField, registerField, addressFields, resetText, branchText, exceptionText, returnText, platformText, readText, writeText, readableText, readableLine, lineEnd, lineWritten};
+ghost use Rattle.readable.specs.Readable.{Put, prefixed, cyclesField, branchTypeField, groupField, registerField, addressFields, resetText, branchText, exceptionText, returnText, platformText, readText, writeText, haltText, resumeText, readableText, readableLine, lineEnd, lineWritten};
 use buffer::ROOM;
 use buffer::forward;
 use recording::Numbers;
@@ -157,6 +157,21 @@ fn put_write(out: &mut [u8; ROOM], at: usize, x: Numbers) -> usize
     put_hexadecimal(out, register, b" value=", x.b)
 }
 
+fn put_halt(out: &mut [u8; ROOM], at: usize, x: Numbers) -> usize
+    ensures { λ r. ⌜ Put (now (out .entry)) at (haltText x) r (now (out .exit)) ⌝ }
+{
+    let cycles = put_opening(out, at, b"halt", x);
+    put_hexadecimal(out, cycles, b" source=", x.a)
+}
+
+fn put_resume(out: &mut [u8; ROOM], at: usize, x: Numbers) -> usize
+    ensures { λ r. ⌜ Put (now (out .entry)) at (resumeText x) r (now (out .exit)) ⌝ }
+{
+    let cycles = put_opening(out, at, b"resume", x);
+    let target = put_hexadecimal(out, cycles, b" target=", x.a);
+    put_decimal(out, target, b" target_level=", x.b)
+}
+
 fn put_operation(out: &mut [u8; ROOM], at: usize, x: Numbers) -> usize
     ensures { λ r. ⌜ Put (now (out .entry)) at (readableText x) r (now (out .exit)) ⌝ }
 {
@@ -169,6 +184,8 @@ fn put_operation(out: &mut [u8; ROOM], at: usize, x: Numbers) -> usize
         4 => put_platform(out, at, x),
         5 => put_read(out, at, x),
         6 => put_write(out, at, x),
+        8 => put_halt(out, at, x),
+        9 => put_resume(out, at, x),
         _ => put_opening(out, at, b"iall", x),
     }
 }

@@ -19,9 +19,9 @@ use Rattle.access.proofs.Laws.{keptOf, written-reads}
 use Rattle.operation.specs.declared.Operation.{Operation}
 use Rattle.operation.specs.declared.Operation.the-variants.{Read, Write}
 use Rattle.operation.specs.Refusal.{refusalOf}
-use Rattle.operation.specs.Changed.{changed}
-use Rattle.change.specs.Change.{effectOf}
-use Rattle.recorder.specs.Step.{answerOf, accepted, refused, stepOf}
+use Rattle.operation.specs.Clause.{changed}
+use Rattle.change.specs.Change.{effectOf, answerOf}
+use Rattle.recorder.specs.Step.{accepted, refused, stepOf}
 
 module _ (s : State) (o : Operation) (cycles : ℕ) (room : List ℕ) where
   pub accepted-step : refusalOf s o (length room) ≡ 0 → stepOf s o cycles room ≡ accepted s o cycles room

@@ -1,17 +1,10 @@
 // The step: one operation on a state and a lent room (document 01, whole; docs/MANUAL.md, "Operations").
 ghost use mathlib.Core.Path.{_≡_};
-ghost use Rattle.recorder.specs.Step.{answerOf, accepted, stepOf};
+ghost use Rattle.recorder.specs.Step.{accepted, stepOf};
 ghost use Rattle.recorder.specs.Result.{together};
 ghost use Rattle.recorder.specs.Lent.{lentStep};
-use access::iall_outcome;
-use access::meant;
-use access::read_outcome;
-use access::register_value;
-use access::write_outcome;
 use answer::Answer;
-use change::effect_of;
-use change::passed;
-use change::running_after;
+use change::decide;
 use operation::Operation;
 use operation::refusal;
 use room::apply;
@@ -26,44 +19,14 @@ pub struct Stepped {
     pub state: State,
 }
 
-// What a read answers.
-fn read_answer(s: State, room: &[u64], register: u64) -> Answer
-    ensures { λ r. ⌜ r ≡ answerOf s (Operation.Read register) (now (room .entry)) ⌝ }
-{
-    let ended = read_outcome(s, register);
-    if ended.is_done() {
-        Answer::Value(register_value(s, room, meant(s, register)))
-    } else {
-        ended
-    }
-}
-
-// What an accepted operation answers.
-fn answer_of(s: State, room: &[u64], o: Operation) -> Answer
-    ensures { λ r. ⌜ r ≡ answerOf s o (now (room .entry)) ⌝ }
-{
-    match o {
-        Operation::Reset { .. } => Answer::Done,
-        Operation::Branch { .. } => Answer::Done,
-        Operation::Exception { .. } => Answer::Done,
-        Operation::Return { .. } => Answer::Done,
-        Operation::Platform { .. } => Answer::Done,
-        Operation::Read { register } => read_answer(s, room, register),
-        Operation::Write { register, .. } => write_outcome(s, register),
-        Operation::Iall => iall_outcome(s),
-        Operation::Unknown => Answer::Done,
-    }
-}
-
 // An accepted operation: all is decided first, and then the room is written.
 fn accept(s: State, room: &mut [u64], o: Operation, cycles: u64) -> Stepped
     ensures { λ r. ⌜ together (r .answer) (r .state) (now (room .exit)) ≡ accepted s o cycles (now (room .entry)) ⌝ }
 {
-    let answer = answer_of(s, &room[..], o);
-    let after = passed(s, o, cycles);
-    let running = after.running;
-    let effect = effect_of(s, o, running);
-    let state = after.with_running(running_after(effect, running));
+    let all = decide(s, &room[..], o, cycles);
+    let answer = all.answer;
+    let state = all.state;
+    let effect = all.effect;
     apply(room, s.size, effect);
     Stepped { answer, state }
 }

@@ -17,15 +17,17 @@ no-value (Value n next) h p q = absurd (⊎-elim (λ e. omega arith) (λ e. omeg
 no-value Malformed h p q = p refl
 no-value Ended h p q = q refl
 
--- No code has more than four fields, and none has three
-pub fields-at-most : (code : ℕ) → (fieldCount code ≤ 4) × (fieldCount code ≡ 3 → ⊥)
+-- No code has more than four fields
+pub fields-at-most : (code : ℕ) → fieldCount code ≤ 4
 unfolding fieldCount
-fields-at-most zero = (omega arith, λ e. omega arith)
-fields-at-most (suc zero) = (omega arith, λ e. omega arith)
-fields-at-most (suc (suc zero)) = (omega arith, λ e. omega arith)
-fields-at-most (suc (suc (suc zero))) = (omega arith, λ e. omega arith)
-fields-at-most (suc (suc (suc (suc zero)))) = (omega arith, λ e. omega arith)
-fields-at-most (suc (suc (suc (suc (suc zero))))) = (omega arith, λ e. omega arith)
-fields-at-most (suc (suc (suc (suc (suc (suc zero)))))) = (omega arith, λ e. omega arith)
-fields-at-most (suc (suc (suc (suc (suc (suc (suc zero))))))) = (omega arith, λ e. omega arith)
-fields-at-most (suc (suc (suc (suc (suc (suc (suc (suc code)))))))) = (omega arith, λ e. omega arith)
+fields-at-most zero = omega arith
+fields-at-most (suc zero) = omega arith
+fields-at-most (suc (suc zero)) = omega arith
+fields-at-most (suc (suc (suc zero))) = omega arith
+fields-at-most (suc (suc (suc (suc zero)))) = omega arith
+fields-at-most (suc (suc (suc (suc (suc zero))))) = omega arith
+fields-at-most (suc (suc (suc (suc (suc (suc zero)))))) = omega arith
+fields-at-most (suc (suc (suc (suc (suc (suc (suc zero))))))) = omega arith
+fields-at-most (suc (suc (suc (suc (suc (suc (suc (suc zero)))))))) = omega arith
+fields-at-most (suc (suc (suc (suc (suc (suc (suc (suc (suc zero))))))))) = omega arith
+fields-at-most (suc (suc (suc (suc (suc (suc (suc (suc (suc (suc code)))))))))) = omega arith

@@ -64,7 +64,7 @@ read-all (n ∷ list) s at b w e =
     rw (first, rest, length-append, add-assoc)
 
 own-length : (x : Numbers) → length (ownNumbers x) ≡ suc (fieldCount (x .code))
-own-length x = ap suc (length-take-le (fieldCount (x .code)) (x .a ∷ x .b ∷ x .c ∷ x .d ∷ []) (fields-at-most (x .code) .0))
+own-length x = ap suc (length-take-le (fieldCount (x .code)) (x .a ∷ x .b ∷ x .c ∷ x .d ∷ []) (fields-at-most (x .code)))
 
 pub read-written-operation : (s : List ℕ) (at : ℕ) (x : Numbers) (b : List ℕ) → Writable x → drop at s ≡ operationBytes x ++ b
     → operationAt s at ≡ Operation (asRead x) (at + length (operationBytes x))

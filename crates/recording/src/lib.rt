@@ -73,6 +73,12 @@ pub fn field_count(code: u64) -> u64
     if code == 6 {
         return 2;
     }
+    if code == 8 {
+        return 1;
+    }
+    if code == 9 {
+        return 2;
+    }
     0
 }
 

@@ -5,7 +5,7 @@ use mathlib.Core.Bool.{Bool, true, false, cond, _&&_, _||_, not}
 use lib.Dec.{eqb}
 use Rattle.bits.specs.Bits.{isSet}
 use Rattle.state.specs.declared.State.{State}
-use Rattle.state.specs.Named.{NS, TGE, SBRBE, EL2Enabled}
+use Rattle.state.specs.Named.{NS, TGE, SBRBE, EL2Enabled, debugState}
 use Rattle.region.specs.Region.{enabled, prohibited}
 
 -- MDCR_EL3.SBRBE is 0b00; or it is 0b01 and the PE is in Secure state: what R_SFZQD, R_YPHYG and R_DBPCP have in common.
@@ -18,6 +18,11 @@ first-last true true = refl
 first-last true false = refl
 first-last false true = refl
 first-last false false = refl
+
+-- R_LPYBQ: execution in Debug state is a BRBE Prohibited region.
+pub in-Debug-state : (s : State) → prohibited s debugState ≡ true
+unfolding prohibited
+in-Debug-state s = refl
 
 -- R_GLKGW: FEAT_BRBEv1p1 is not implemented; or self-hosted EL3 branch recording is disabled.
 pub at-EL3 : (s : State) → prohibited s 3 ≡ (not (eqb (s .v1p1) 1) || not (isSet 6 (s .p)))

@@ -1,7 +1,8 @@
-// Where recording is prohibited (document 01; docs/MANUAL.md, the same; Arm's BRBE Prohibited regions, D19.1.4).
+// Where recording is prohibited (document 01; document 02, Five; docs/MANUAL.md, the same; Arm's BRBE Prohibited regions, D19.1.4).
 ghost use mathlib.Core.Path.{_≡_};
 ghost use Rattle.region.specs.Region.{enabled, prohibitedBySBRBE, prohibited};
 use bits::pick_bool;
+use state::DEBUG_STATE;
 use state::State;
 
 // Bits of P, of BRBCR_EL1 and of BRBCR_EL2, each as the power of two that it weighs.
@@ -32,11 +33,12 @@ fn prohibited_by_sbrbe(s: State) -> bool
     (s.p / SBRBE % 4 == 0) | (s.p / SBRBE % 4 == 1) & !(s.p / NS % 2 == 1)
 }
 
-// Recording is prohibited at the level.
-pub fn prohibited(s: State, level: u64) -> bool
-    ensures { λ r. ⌜ r ≡ prohibited s level ⌝ }
+// Recording is prohibited at a side of an event: a level, or Debug state.
+pub fn prohibited(s: State, side: u64) -> bool
+    ensures { λ r. ⌜ r ≡ prohibited s side ⌝ }
 {
     let recorded = s.el3_recording_enabled();
-    let below3 = prohibited_by_sbrbe(s) | !enabled(s, level);
-    pick_bool(level == 3, !recorded, below3)
+    let below3 = prohibited_by_sbrbe(s) | !enabled(s, side);
+    let closed = pick_bool(side == 3, !recorded, below3);
+    (side == DEBUG_STATE) | closed
 }

@@ -16,16 +16,16 @@ use Rattle.state.specs.Sound.{sound}
 use Rattle.state.specs.Parts.{stateNumbers, stateOf, wordsOf}
 use Rattle.state.specs.Words.{stored, judged, loaded}
 
-pub load-stored : (s : State) (w : List ℕ) → 9 ≤ length w → stateOf (stored s w) ≡ s
+pub load-stored : (s : State) (w : List ℕ) → stateNumbers ≤ length w → stateOf (stored s w) ≡ s
 unfolding stored
-load-stored s w enough = rw (le-leb 9 (length w) enough)
+load-stored s w enough = rw (le-leb stateNumbers (length w) enough)
 
 pub stored-loaded : (w : List ℕ) → stored (stateOf w) w ≡ w
 unfolding stored
 stored-loaded w =
-    ⊎-elim (λ (few : length w < 9). rw (lt-leb 9 (length w) few))
-    (λ (enough : 9 ≤ length w). rw (le-leb 9 (length w) enough) (sym (sets-eq (wordsOf (stateOf w)) w 0 (omega arith)) ∙ simp set-getD))
-    (below-or-not (length w) 9)
+    ⊎-elim (λ (few : length w < stateNumbers). rw (lt-leb stateNumbers (length w) few))
+    (λ (enough : stateNumbers ≤ length w). rw (le-leb stateNumbers (length w) enough) (sym (sets-eq (wordsOf (stateOf w)) w 0 (omega arith)) ∙ simp set-getD))
+    (below-or-not (length w) stateNumbers)
 
 -- A state that was judged and held is the one that was judged, and it is sound.
 pub held-judged : (s s′ : State) → judged s ≡ Held s′ → (s′ ≡ s) × (sound s ≡ true)
@@ -61,6 +61,6 @@ loaded-stored s w enough is-sound =
 pub stored-again : (s t : State) (w : List ℕ) → stored t (stored s w) ≡ stored t w
 unfolding stored
 stored-again s t w =
-    ⊎-elim (λ (few : length w < 9). rw (lt-leb 9 (length w) few, lt-leb 9 (length w) few))
-    (λ (enough : 9 ≤ length w). rw (le-leb 9 (length w) enough, le-leb 9 (length (wordsOf s ++ drop 9 w)) (omega arith)))
-    (below-or-not (length w) 9)
+    ⊎-elim (λ (few : length w < stateNumbers). rw (lt-leb stateNumbers (length w) few, lt-leb stateNumbers (length w) few))
+    (λ (enough : stateNumbers ≤ length w). rw (le-leb stateNumbers (length w) enough, le-leb stateNumbers (length (wordsOf s ++ drop stateNumbers w)) (omega arith)))
+    (below-or-not (length w) stateNumbers)

@@ -1,7 +1,7 @@
--- The bits of P and of the control registers by name, and the states that document 01 names: "Operations"; docs/MANUAL.md,
--- "The platform word P" and "Registers".
+-- The bits of P and of the control registers by name, and the states that document 01 names: "Operations"; document 02, Five;
+-- docs/MANUAL.md, "The platform word P", "Registers" and "Halts and resumes".
 use Prim.Native.Nat.{ℕ}
-use mathlib.Core.Bool.{Bool, _&&_, _||_}
+use mathlib.Core.Bool.{Bool, cond, _&&_, _||_}
 use mathlib.Core.List.{List, [], _∷_}
 use lib.Dec.{eqb}
 use Rattle.bits.specs.Bits.{isSet, part}
@@ -79,6 +79,18 @@ PAUSED s = isSet 7 (s .brbfcr)
 abbrev pub BANK : State → ℕ
 BANK s = part 29 28 (s .brbfcr)
 
+-- The processor is halted: it entered Debug state and did not leave it.
+abbrev pub isHalted : State → Bool
+isHalted s = eqb (s .halted) 1
+
+-- Debug state as a side of an event; the other sides are the levels, 0 to 3.
+abbrev pub debugState : ℕ
+debugState = 4
+
+-- The side at which an operation begins: Debug state while the processor is halted, else its level. (Document 02, Five.)
+abbrev pub side : State → ℕ
+side s = cond (isHalted s) debugState (s .level)
+
 -- The sizes that a reset can give: BRBIDR0_EL1.NUMREC.
 abbrev pub sizes : List ℕ
 sizes = 8 ∷ 16 ∷ 32 ∷ 64 ∷ []
@@ -103,11 +115,19 @@ withRegisters brbcr1 brbcr2 brbfcr s = withNumber 4 brbcr1 (withNumber 5 brbcr2 
 abbrev pub withRunning : Running → State → State
 withRunning r s = withNumber 7 (r .count) (withNumber 8 (r .unknown) s)
 
+-- The state once the processor is halted: all else, the level too, stays.
+abbrev pub inDebugState : State → State
+inDebugState s = withNumber 9 1 s
+
+-- The state once the processor has left Debug state to a level.
+abbrev pub resumedAt : ℕ → State → State
+resumedAt level s = withNumber 9 0 (atLevel level s)
+
 -- The running count after a reset: 0, and the next count is unknown, since no record was made that it could run from.
 abbrev pub runningAfterReset : Running
 runningAfterReset = record { count = 0; unknown = 1 }
 
--- A reset: level 3, its size and v1p1, 0 in P and in the three control registers, and the running count after a reset. (House:
--- on a processor a cold reset leaves much of this unknown.)
+-- A reset: level 3 and not halted, its size and v1p1, 0 in P and in the three control registers, and the running count after a
+-- reset. (House: on a processor a cold reset leaves much of this unknown.)
 abbrev pub afterReset : ℕ → ℕ → State
 afterReset size v1p1 = withRunning runningAfterReset (atLevel 3 (withNumber 1 size (withNumber 2 v1p1 fresh)))

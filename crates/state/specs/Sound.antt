@@ -34,4 +34,4 @@ unfoldable pub sound : State → Bool
 sound s =
     leb (s .level) 3 && oneOf (0 ∷ sizes) (s .size) && leb (s .v1p1) 1 && within platformMask (s .p)
     && within controlMask (s .brbcr1) && within controlMask (s .brbcr2) && within filterMask (s .brbfcr)
-    && not (unavailable s (s .level)) && leb (s .running .count) cap && leb (s .running .unknown) 1
+    && not (unavailable s (s .level)) && leb (s .running .count) cap && leb (s .running .unknown) 1 && leb (s .halted) 1

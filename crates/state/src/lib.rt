@@ -1,10 +1,11 @@
-// The state of the model (document 01, "Operations" and refusal 7; docs/MANUAL.md, "State and room").
+// The state of the model (document 01, "Operations" and refusal 7; document 02, Five; docs/MANUAL.md, "State and room").
 ghost use mathlib.Core.Path.{_≡_};
 ghost use mathlib.Core.Bool.{Bool};
 ghost use Rattle.bits.specs.Bits.{oneOf};
-ghost use Rattle.state.specs.Named.{EL2Enabled, EL3RecordingEnabled, counting, predictionShown, PAUSED, BANK, sizes, fresh, afterReset, atLevel, withPlatform, withRegisters, withRunning};
+ghost use Rattle.state.specs.Named.{EL2Enabled, EL3RecordingEnabled, counting, predictionShown, PAUSED, BANK, side, sizes, fresh, afterReset, atLevel, inDebugState, resumedAt, withPlatform, withRegisters, withRunning};
 ghost use Rattle.state.specs.Sound.{unavailable, sound};
 ghost use Rattle.state.specs.Words.{stored, loaded};
+use bits::pick;
 
 // P's bits by name (house layout), each as the power of two that it weighs: bit k of x is x / 2^k % 2.
 const NS: u64 = 0x1;
@@ -34,8 +35,11 @@ pub const FILTER_MASK: u64 = 0x307F0080;
 // Where the running count stops.
 pub const CAP: u64 = 1_048_576;
 
+// Debug state as a side of an event; the other sides are the levels, 0 to 3.
+pub const DEBUG_STATE: u64 = 4;
+
 // How many lent numbers hold a state.
-pub const STATE_NUMBERS: usize = 9;
+pub const STATE_NUMBERS: usize = 10;
 
 // The running count, and whether the next record's count is unknown.
 pub struct Running {
@@ -43,7 +47,7 @@ pub struct Running {
     pub unknown: u64,
 }
 
-// All that one processor's recorder holds but its records. In lent memory these nine numbers stand in this order.
+// All that one processor's recorder holds but its records. In lent memory these ten numbers stand in this order.
 pub struct State {
     pub level: u64,
     // 0 before the first reset.
@@ -55,6 +59,8 @@ pub struct State {
     pub brbcr2: u64,
     pub brbfcr: u64,
     pub running: Running,
+    // 1 while the processor is in Debug state.
+    pub halted: u64,
 }
 
 // The sizes that a reset can give.
@@ -102,6 +108,13 @@ impl State {
         self.brbfcr / BANK % 4
     }
 
+    // The side at which an operation begins: Debug state while halted, else the level.
+    pub fn side(self) -> u64
+        ensures { λ r. ⌜ r ≡ side self ⌝ }
+    {
+        pick(self.halted == 1, DEBUG_STATE, self.level)
+    }
+
     // The level is not there: no sound state is at it, and no event enters it.
     pub fn unavailable(self, level: u64) -> bool
         ensures { λ r. ⌜ r ≡ unavailable self level ⌝ }
@@ -125,7 +138,7 @@ impl State {
             & (self.brbcr2 & CONTROL_MASK == self.brbcr2)
             & (self.brbfcr & FILTER_MASK == self.brbfcr);
         let unavailable = self.unavailable(self.level);
-        listed & !unavailable & (running.count <= CAP) & (running.unknown <= 1)
+        listed & !unavailable & (running.count <= CAP) & (running.unknown <= 1) & (self.halted <= 1)
     }
 }
 
@@ -147,6 +160,7 @@ impl State {
             brbcr2: 0,
             brbfcr: 0,
             running,
+            halted: 0,
         }
     }
 
@@ -169,6 +183,23 @@ impl State {
         ensures { λ r. ⌜ r ≡ atLevel level self ⌝ }
     {
         self.level = level;
+        self
+    }
+
+    // Debug state is entered; the level stays.
+    pub fn in_debug_state(mut self) -> State
+        ensures { λ r. ⌜ r ≡ inDebugState self ⌝ }
+    {
+        self.halted = 1;
+        self
+    }
+
+    // Debug state is left, to a level.
+    pub fn resumed_at(mut self, level: u64) -> State
+        ensures { λ r. ⌜ r ≡ resumedAt level self ⌝ }
+    {
+        self.level = level;
+        self.halted = 0;
         self
     }
 
@@ -223,6 +254,7 @@ pub fn load(words: &[u64]) -> Loaded
         brbcr2: words[5],
         brbfcr: words[6],
         running,
+        halted: words[9],
     };
     if s.sound() {
         Loaded::Held(s)
@@ -248,4 +280,5 @@ pub fn store(words: &mut [u64], s: State)
     words[6] = s.brbfcr;
     words[7] = running.count;
     words[8] = running.unknown;
+    words[9] = s.halted;
 }

@@ -3,10 +3,4 @@ use Rattle.change.proofs.iall_effect.Statement.{statement}
 use Rattle.change.proofs.iall_effect.Tie as tie
 
 pub iall-effect-spec : {M : Type 1} → statement M
-iall-effect-spec =
-    tie.close
-    (tie.spec
-    (λ _ _. tt)
-    (λ _ _. tt)
-    (λ c. rw (← c .before .before .iall-outcome .ensures, ← c .before .is-done .ensures, c .if1 .taken))
-    (λ c. rw (← c .before .before .iall-outcome .ensures, ← c .before .is-done .ensures, c .if1 .left)))
+iall-effect-spec = tie.close (tie.spec (λ c. rw (c .if1 .taken)) (λ c. rw (c .if1 .left)))

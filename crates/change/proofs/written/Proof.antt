@@ -8,7 +8,5 @@ written-spec =
     (tie.spec
     (λ _ _. tt)
     (λ _ _. tt)
-    (λ _ _. tt)
-    (λ _ _. tt)
-    (λ c. rw (← c .before .before .before .before .write-outcome .ensures, ← c .before .before .before .is-done .ensures, c .before .before .if1 .taken, ← c .before .meant .ensures, c .register-written .ensures))
-    (λ c. rw (← c .before .before .write-outcome .ensures, ← c .before .is-done .ensures, c .if1 .left)))
+    (λ c. rw (c .before .before .if1 .taken, ← c .before .meant .ensures, c .register-written .ensures))
+    (λ c. rw (c .if1 .left)))

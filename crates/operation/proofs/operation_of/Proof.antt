@@ -17,4 +17,6 @@ operation-of-spec =
     (λ c. rw (c .match .keys6))
     (λ c. rw (c .match .keys7))
     (λ c. rw (c .match .keys8))
+    (λ c. rw (c .match .keys9))
+    (λ c. rw (c .match .keys10))
     (λ c. search ne-eqb))

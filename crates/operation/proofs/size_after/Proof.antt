@@ -2,7 +2,7 @@
 use mathlib.Core.Path.{refl, sym}
 use borrow.Author.Needs.{needs}
 use Rattle.operation.specs.declared.Operation.the-variants.{Write}
-use Rattle.operation.specs.Changed.{changed}
+use Rattle.operation.specs.Clause.{changed}
 use Rattle.operation.proofs.Size.{size-kept}
 use Rattle.operation.proofs.size_after.Statement.{statement}
 use Rattle.operation.proofs.size_after.Tie as tie
@@ -21,6 +21,8 @@ size-after-spec =
     (λ c. search needs)
     (λ c. search needs)
     (λ c. search needs)
+    (λ c. search needs)
+    (λ c. search needs)
     (λ c. rw (c .before .o .given .1))
     (λ c. rw (c .enum-told .given .1))
     (λ c. rw (c .enum-told2 .given .1))
@@ -29,4 +31,6 @@ size-after-spec =
     (λ c. rw (c .enum-told5 .given .1))
     (λ c. let (o, e) = c .enum-told6 .given in rw e (sym (size-kept (c .before .before .args .s) (Write (o .0) (o .1 .0)) refl)))
     (λ c. rw (c .enum-told7 .given .1))
-    (λ c. rw (c .enum-told8 .given .1)))
+    (λ c. rw (c .enum-told8 .given .1))
+    (λ c. rw (c .enum-told9 .given .1))
+    (λ c. rw (c .enum-told10 .given .1)))

@@ -1,4 +1,4 @@
--- Refusal 5's condition, as defined: each arm knows its operation, and what `closed` answers is put in.
+-- Refusal 5's condition, as defined: each arm knows its operation, and what `unavailable` answers is put in.
 use borrow.Author.Needs.{needs}
 use Rattle.operation.specs.Refusal.{wrongLevel}
 use Rattle.operation.proofs.wrong_level.Statement.{statement}
@@ -20,6 +20,9 @@ wrong-level-spec =
     (λ c. search needs)
     (λ c. search needs)
     (λ c. search needs)
+    (λ c. search needs)
+    (λ _ _. tt)
+    (λ c. search needs)
     (λ c. rw (c .enum-told .given .1))
     (λ c. rw (c .enum-told2 .given .1))
     (λ c. rw (c .before .before .before .o .given .1, c .before .unavailable .ensures))
@@ -28,4 +31,6 @@ wrong-level-spec =
     (λ c. rw (c .enum-told4 .given .1))
     (λ c. rw (c .enum-told5 .given .1))
     (λ c. rw (c .enum-told6 .given .1))
-    (λ c. rw (c .enum-told7 .given .1)))
+    (λ c. rw (c .enum-told7 .given .1))
+    (λ c. rw (c .before .before .o3 .given .1, c .unavailable3 .ensures))
+    (λ c. rw (c .enum-told8 .given .1)))

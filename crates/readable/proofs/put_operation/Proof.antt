@@ -18,6 +18,8 @@ put-operation-spec =
     (λ _ _. tt)
     (λ _ _. tt)
     (λ _ _. tt)
+    (λ _ _. tt)
+    (λ _ _. tt)
     (λ c. search needs)
     (λ _ _. tt)
     (λ c. rw (c .before .before .match .keys1) (c .put-reset .ensures))
@@ -27,6 +29,8 @@ put-operation-spec =
     (λ c. rw (c .before .before .match .keys5) (c .put-platform .ensures))
     (λ c. rw (c .before .before .match .keys6) (c .put-read .ensures))
     (λ c. rw (c .before .before .match .keys7) (c .put-write .ensures))
+    (λ c. rw (c .before .before .match .keys8) (c .put-halt .ensures))
+    (λ c. rw (c .before .before .match .keys9) (c .put-resume .ensures))
     (λ c.
     let x = c .before .before .before .before .args .x in
     let last : readableText x ≡ iallText x = search ne-eqb in

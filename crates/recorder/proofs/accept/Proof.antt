@@ -1,4 +1,4 @@
--- An accepted operation, as defined: what each callee decides is put in, and the room is what `apply` leaves.
+-- An accepted operation, as defined: what was decided is put in, and the room is what `apply` leaves.
 use borrow.Author.Needs.{needs}
 use Rattle.recorder.specs.Step.{accepted}
 use Rattle.recorder.proofs.accept.Statement.{statement}
@@ -11,9 +11,5 @@ accept-spec =
     (tie.spec
     (λ _ _. tt)
     (λ _ _. tt)
-    (λ _ _. tt)
-    (λ _ _. tt)
-    (λ _ _. tt)
-    (λ _ _. tt)
     (λ c. search needs)
-    (λ c. rw (c .before .before .apply .ensures, c .before .before .before .before .with-running .ensures, c .before .before .before .before .before .running-after .ensures, c .before .before .before .before .before .before .effect-of .ensures, c .before .before .before .before .before .before .before .before .passed .ensures, c .before .before .before .before .before .before .before .before .before .answer-of .ensures)))
+    (λ c. rw (c .before .before .apply .ensures, c .before .before .before .before .before .decide .ensures)))

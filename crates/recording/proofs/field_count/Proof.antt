@@ -29,12 +29,12 @@ one (suc (suc zero)) h g = absurd (omega arith)
 one (suc (suc (suc zero))) h g = absurd (omega arith)
 
 -- Past the codes that have fields
-none : (code : ℕ) → 6 < code → 0 ≡ fieldCount code
+none : (code : ℕ) → 6 < code → (code ≡ 8 → ⊥) → (code ≡ 9 → ⊥) → 0 ≡ fieldCount code
 unfolding fieldCount
-none code h =
-    ⊎-elim (λ below. let seven : code ≡ 7 = omega arith in sym (ap fieldCount seven))
-    (λ past. sym (List·getD-eq-default (2 ∷ 4 ∷ 4 ∷ 4 ∷ 1 ∷ 1 ∷ 2 ∷ 0 ∷ []) 0 {n = code} past))
-    (below-or-not code 8)
+none code h eight nine =
+    ⊎-elim (λ below. let seven : code ≡ 7 = omega (arith, eight, nine) in sym (ap fieldCount seven))
+    (λ past. sym (List·getD-eq-default (2 ∷ 4 ∷ 4 ∷ 4 ∷ 1 ∷ 1 ∷ 2 ∷ 0 ∷ 1 ∷ 2 ∷ []) 0 {n = code} past))
+    (below-or-not code 10)
 
 pub field-count-spec : {M : Type 1} → statement M
 unfolding fieldCount
@@ -45,4 +45,6 @@ field-count-spec =
     (λ c. (four (c .before .before .args .code) (omega arith) (omega arith), omega arith))
     (λ c. (one (c .before .before .before .args .code) (omega arith) (omega arith), omega arith))
     (λ c. (sym (ap fieldCount (c .if4 .taken)), omega arith))
-    (λ c. (none (c .before .before .before .before .args .code) (omega arith), omega arith)))
+    (λ c. (sym (ap fieldCount (c .if5 .taken)), omega arith))
+    (λ c. (sym (ap fieldCount (c .if6 .taken)), omega arith))
+    (λ c. (none (c .before .before .before .before .before .before .args .code) (omega arith) (λ e. omega arith) (λ e. omega arith), omega arith)))

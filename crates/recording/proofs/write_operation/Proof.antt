@@ -11,6 +11,7 @@ use lib.ListN.{length, take}
 use Rattle.answer.specs.declared.Answer.the-variants.{Value, Refused}
 use Rattle.number.specs.Number.{written}
 use Rattle.number.proofs.Written.{no-room, room}
+use Rattle.operation.specs.Operation.{lastCode}
 use Rattle.recording.specs.declared.Numbers.{Numbers}
 use Rattle.recording.specs.Recording.{fieldCount, bytesOfAll, operationBytes, writingOf, writtenOperation}
 use Rattle.recording.proofs.Cases.{fields-at-most}
@@ -24,18 +25,18 @@ unfolding operationBytes
 own-bytes x count e = rw (e, add-two)
 
 -- The answers of an operation whose code is known, by the room.
-module _ (x : Numbers) (at : ℕ) (out : List ℕ) (known : x .code ≤ 7) where
+module _ (x : Numbers) (at : ℕ) (out : List ℕ) (known : x .code ≤ lastCode) where
   no-place : length out < at + length (operationBytes x) → (Refused 6 ≡ writingOf x at out) × (out ≡ writtenOperation x at out)
   unfolding writingOf writtenOperation
   no-place h =
-      let e = le-ltb 7 (x .code) known in
+      let e = le-ltb lastCode (x .code) known in
       (rw (e, lt-leb (at + length (operationBytes x)) (length out) h), rw e (no-room out at (operationBytes x) h .1))
 
   a-place : at + length (operationBytes x) ≤ length out
       → (Value (length (operationBytes x)) ≡ writingOf x at out) × (written out at (operationBytes x) ≡ writtenOperation x at out)
   unfolding writingOf writtenOperation
   a-place h =
-      let e = le-ltb 7 (x .code) known in
+      let e = le-ltb lastCode (x .code) known in
       (rw (e, le-leb (at + length (operationBytes x)) (length out) h), rw e (room out at (operationBytes x) h .1))
 
 -- What was counted is the length of the operation's bytes.
@@ -49,7 +50,7 @@ counted l =
 
 returns : tie.Need-returns
 unfolding writingOf writtenOperation
-returns c = let e = lt-ltb 7 (c .before .before .before .args .x .code) (omega arith) in (rw e, rw e)
+returns c = let e = lt-ltb lastCode (c .before .before .before .args .x .code) (omega arith) in (rw e, rw e)
 
 returns-2 : tie.Need-returns-2
 returns-2 c =

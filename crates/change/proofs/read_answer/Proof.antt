@@ -1,7 +1,7 @@
 -- What a read answers, as defined: how it ended decides.
-use Rattle.recorder.specs.Step.{answerOf}
-use Rattle.recorder.proofs.read_answer.Statement.{statement}
-use Rattle.recorder.proofs.read_answer.Tie as tie
+use Rattle.change.specs.Change.{answerOf}
+use Rattle.change.proofs.read_answer.Statement.{statement}
+use Rattle.change.proofs.read_answer.Tie as tie
 
 pub read-answer-spec : {M : Type 1} → statement M
 unfolding answerOf
