@@ -106,7 +106,7 @@ unfolding operationAt
 operation-window bytes more at h =
     rw (number-window bytes more at (omega arith))
     (window-code bytes more at (numberAt bytes at)
-    (λ code next e. omega (arith, reach bytes at code next e .allowed-to, fields-at-most code .0)))
+    (λ code next e. omega (arith, reach bytes at code next e .allowed-to, fields-at-most code)))
 
 -- ---- how far an operation reaches
 
