@@ -99,7 +99,8 @@ fn mpred(s: State, e: Event) -> u64
 {
     let shown = s.prediction_shown();
     let hidden = prohibited(s, e.left);
-    pick(shown & !hidden, e.mispredicted, 0)
+    let flag = pick(shown, e.mispredicted, 0);
+    pick(hidden, 0, flag)
 }
 
 // BRBINF's fields in their places.

@@ -1,7 +1,13 @@
 // The operations (document 01, "Operations"; document 02, Five) and their refusals ("Refusal numbers, in order of checking";
 // docs/MANUAL.md, "Operations" and "Refusals").
 ghost use mathlib.Core.Path.{_≡_};
+ghost use mathlib.Core.Bool.{false, _||_, not};
 ghost use mathlib.Core.List.{[], _∷_};
+ghost use lib.Dec.{eqb, ltb};
+ghost use Rattle.bits.specs.Bits.{oneOf};
+ghost use Rattle.state.specs.Named.{isHalted};
+ghost use Rattle.state.specs.Sound.{unavailable};
+ghost use Rattle.filter.specs.Filter.{branchTypes, exceptionTypes};
 ghost use Rattle.operation.specs.Operation.{operationOf, codeOf};
 ghost use Rattle.operation.specs.Clause.{changed};
 ghost use Rattle.operation.specs.Refusal.{unknownCode, notReset, outsideList, wrongHalted, wrongLevel, roomTooShort, firstThat, refusalOf};
@@ -121,71 +127,89 @@ fn code_of(o: Operation) -> u64
     }
 }
 
-// 4: a number of the operation is outside its list.
-fn outside_list(o: Operation) -> bool
-    ensures { λ r. ⌜ r ≡ outsideList o ⌝ }
+// Which of refusals 4, 8 and 5 have their condition met: a number of the operation is outside its list; nothing runs while the
+// processor is halted, and only a halted one resumes; the level does not let the operation happen.
+struct Judged {
+    outside: bool,
+    halted: bool,
+    level: bool,
+}
+
+fn conditions(outside: bool, halted: bool, level: bool) -> Judged
+    ensures { λ r. ⌜ r ≡ record { outside = outside; halted = halted; level = level } ⌝ }
+{
+    Judged {
+        outside,
+        halted,
+        level,
+    }
+}
+
+// A branch: its type and its flag are looked at, and it needs a processor that runs.
+fn judge_branch(s: State, kind: u64, mispredicted: u64) -> Judged
+    ensures { λ r. ⌜ r ≡ record { outside = not (oneOf branchTypes kind) || ltb 1 mispredicted; halted = isHalted s; level = false } ⌝ }
+{
+    let t = BranchType { code: kind };
+    conditions(!t.listed() | (1 < mispredicted), s.halted == 1, false)
+}
+
+// An exception goes neither down nor to EL0.
+fn judge_exception(s: State, kind: u64, level: u64) -> Judged
+    ensures { λ r. ⌜ r ≡ record { outside = not (oneOf exceptionTypes kind) || ltb 3 level; halted = isHalted s; level = ltb level (s .level) || eqb level 0 || unavailable s level } ⌝ }
+{
+    let listed = is_exception_type(kind);
+    let unavailable = s.unavailable(level);
+    conditions(
+        !listed | (3 < level),
+        s.halted == 1,
+        (level < s.level) | (level == 0) | unavailable,
+    )
+}
+
+// A return does not come from EL0 and does not go up.
+fn judge_return(s: State, level: u64, mispredicted: u64) -> Judged
+    ensures { λ r. ⌜ r ≡ record { outside = ltb 3 level || ltb 1 mispredicted; halted = isHalted s; level = eqb (s .level) 0 || ltb (s .level) level || unavailable s level } ⌝ }
+{
+    let unavailable = s.unavailable(level);
+    conditions(
+        (3 < level) | (1 < mispredicted),
+        s.halted == 1,
+        (s.level == 0) | (s.level < level) | unavailable,
+    )
+}
+
+// An operation's conditions, one line each.
+fn judge(s: State, o: Operation) -> Judged
+    ensures { λ r. ⌜ r ≡ record { outside = outsideList o; halted = wrongHalted s o; level = wrongLevel s o } ⌝ }
 {
     match o {
-        Operation::Reset { size, v1p1 } => !is_size(size) | (1 < v1p1),
+        Operation::Reset { size, v1p1 } => conditions(!is_size(size) | (1 < v1p1), false, false),
         Operation::Branch {
             kind,
             mispredicted,
             ..
-        } => {
-            let t = BranchType { code: kind };
-            !t.listed() | (1 < mispredicted)
-        }
+        } => judge_branch(s, kind, mispredicted),
         Operation::Exception {
             kind,
             target_level,
             ..
-        } => { !is_exception_type(kind) | (3 < target_level) }
+        } => judge_exception(s, kind, target_level),
         Operation::Return {
             target_level,
             mispredicted,
             ..
-        } => { (3 < target_level) | (1 < mispredicted) }
-        Operation::Platform { p } => !(p & PLATFORM_MASK == p),
-        Operation::Read { register } => !is_register(register),
-        Operation::Write { register, .. } => !is_register(register),
-        Operation::Iall => false,
-        Operation::Halt { .. } => false,
-        Operation::Resume { target_level, .. } => 3 < target_level,
-        Operation::Unknown => false,
-    }
-}
-
-// 8: nothing runs while the processor is halted, and only a halted one resumes.
-fn wrong_halted(s: State, o: Operation) -> bool
-    ensures { λ r. ⌜ r ≡ wrongHalted s o ⌝ }
-{
-    let code = code_of(o);
-    let halted = s.halted == 1;
-    halted & ((code == 8) | (code == 3) | (code == 2) | (code == 1)) | !halted & (code == 9)
-}
-
-// 5: the level does not let the operation happen.
-fn wrong_level(s: State, o: Operation) -> bool
-    ensures { λ r. ⌜ r ≡ wrongLevel s o ⌝ }
-{
-    match o {
-        Operation::Reset { .. } => false,
-        Operation::Branch { .. } => false,
-        Operation::Exception { target_level, .. } => {
-            let unavailable = s.unavailable(target_level);
-            (target_level < s.level) | (target_level == 0) | unavailable
-        }
-        Operation::Return { target_level, .. } => {
-            let unavailable = s.unavailable(target_level);
-            (s.level == 0) | (s.level < target_level) | unavailable
-        }
-        Operation::Platform { .. } => !(s.level == 3),
-        Operation::Read { .. } => false,
-        Operation::Write { .. } => false,
-        Operation::Iall => false,
-        Operation::Halt { .. } => false,
-        Operation::Resume { target_level, .. } => s.unavailable(target_level),
-        Operation::Unknown => false,
+        } => judge_return(s, target_level, mispredicted),
+        Operation::Platform { p } => conditions(!(p & PLATFORM_MASK == p), false, !(s.level == 3)),
+        Operation::Read { register } => conditions(!is_register(register), false, false),
+        Operation::Write { register, .. } => conditions(!is_register(register), false, false),
+        Operation::Iall => conditions(false, false, false),
+        Operation::Halt { .. } => conditions(false, s.halted == 1, false),
+        Operation::Resume { target_level, .. } => conditions(
+            3 < target_level,
+            !(s.halted == 1),
+            s.unavailable(target_level),
+        ),
+        Operation::Unknown => conditions(false, false, false),
     }
 }
 
@@ -237,13 +261,14 @@ fn room_too_short(s: State, o: Operation, room: usize) -> bool
 fn content_refusal(s: State, o: Operation, room: usize) -> u64
     ensures { λ r. ⌜ r ≡ firstThat ((4, outsideList o) ∷ (8, wrongHalted s o) ∷ (5, wrongLevel s o) ∷ (6, roomTooShort s o room) ∷ []) ⌝ }
 {
-    if outside_list(o) {
+    let judged = judge(s, o);
+    if judged.outside {
         return 4;
     }
-    if wrong_halted(s, o) {
+    if judged.halted {
         return 8;
     }
-    if wrong_level(s, o) {
+    if judged.level {
         return 5;
     }
     if room_too_short(s, o, room) {

@@ -7,11 +7,17 @@ content-refusal-spec =
     tie.close
     (tie.spec
     (λ _ _. tt)
-    (λ c. rw (← c .before .outside-list .ensures, c .if1 .taken))
+    (λ c. let all = c .before .judge .ensures in rw (rw all at (c .if1 .taken)))
+    (λ c. let all = c .before .before .judge .ensures in rw (rw all at (c .before .if1 .left), rw all at (c .if2 .taken)))
+    (λ c.
+    let all = c .before .before .before .judge .ensures in
+    rw (rw all at (c .before .before .if1 .left), rw all at (c .before .if2 .left), rw all at (c .if3 .taken)))
     (λ _ _. tt)
-    (λ c. rw (← c .before .before .before .outside-list .ensures, c .before .before .if1 .left, ← c .before .wrong-halted .ensures, c .if2 .taken))
-    (λ _ _. tt)
-    (λ c. rw (← c .before .before .before .before .before .outside-list .ensures, c .before .before .before .before .if1 .left, ← c .before .before .before .wrong-halted .ensures, c .before .before .if2 .left, ← c .before .wrong-level .ensures, c .if3 .taken))
-    (λ _ _. tt)
-    (λ c. rw (← c .before .before .before .before .before .before .before .outside-list .ensures, c .before .before .before .before .before .before .if1 .left, ← c .before .before .before .before .before .wrong-halted .ensures, c .before .before .before .before .if2 .left, ← c .before .before .before .wrong-level .ensures, c .before .before .if3 .left, ← c .before .room-too-short .ensures, c .if4 .taken))
-    (λ c. rw (← c .before .before .before .before .before .before .before .outside-list .ensures, c .before .before .before .before .before .before .if1 .left, ← c .before .before .before .before .before .wrong-halted .ensures, c .before .before .before .before .if2 .left, ← c .before .before .before .wrong-level .ensures, c .before .before .if3 .left, ← c .before .room-too-short .ensures, c .if4 .left)))
+    (λ c.
+    let fits = c .before .before in
+    let all = fits .before .before .before .judge .ensures in
+    rw (rw all at (fits .before .before .if1 .left), rw all at (fits .before .if2 .left), rw all at (fits .if3 .left), ← c .before .room-too-short .ensures, c .if4 .taken))
+    (λ c.
+    let fits = c .before .before in
+    let all = fits .before .before .before .judge .ensures in
+    rw (rw all at (fits .before .before .if1 .left), rw all at (fits .before .if2 .left), rw all at (fits .if3 .left), ← c .before .room-too-short .ensures, c .if4 .left)))
