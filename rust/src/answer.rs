@@ -6,7 +6,7 @@ use crate::{DONE, REFUSED_CODE, REFUSED_MALFORMED, REFUSED_STATE, TRAP2, TRAP3, 
 #[repr(C)]
 #[derive(Clone, Copy, Debug, PartialEq, Eq)]
 pub struct Answer {
-    /// 0 where the operation is done, 100 and above where its access is not performed, 1 to 7 where it is refused.
+    /// 0 where the operation is done, 100 and above where its access is not performed, 1 to 8 where it is refused.
     pub number: u64,
     /// What a read read; 0 for every other operation and every other number. A function that is no single operation says
     /// itself what it answers here.
@@ -42,7 +42,7 @@ pub enum Outcome {
     Trap2,
     /// Accepted; the access traps to EL3.
     Trap3,
-    /// Refused, by the number in the table of refusals.
+    /// Refused, by the number in the table of refusals, as [`REFUSED_HALTED`](crate::REFUSED_HALTED).
     Refused(u64),
 }
 

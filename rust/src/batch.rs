@@ -20,7 +20,7 @@ use crate::{c, Answer};
 /// let (mut state, mut room) = ([0; brb::STATE_NUMBERS], [0; brb::room_numbers(8)]);
 /// let mut answers = [9; brb::batch_numbers(10)];
 /// assert_eq!(brb::batch(&mut state, &mut room, &bytes, &mut answers[..5]), Answer { number: 6, value: 0 });
-/// assert_eq!((state, answers), ([0; 9], [9; 11]));
+/// assert_eq!((state, answers), ([0; brb::STATE_NUMBERS], [9; 11]));
 /// assert_eq!(brb::batch(&mut state, &mut room, &bytes, &mut answers), Answer { number: 0, value: 3 });
 /// assert_eq!(answers, [0, 0, 4, 0, 0, 0x5008, 9, 9, 9, 9, 9]);
 /// ```

@@ -12,13 +12,13 @@ const fn field(high: u32, low: u32) -> u64 {
 }
 
 /// The first part of the version, which grows where a host has to change.
-pub const VERSION_MAJOR: u64 = 1;
+pub const VERSION_MAJOR: u64 = 2;
 /// The second part of the version, which grows where something is added or an answer becomes another.
 pub const VERSION_MINOR: u64 = 0;
 /// The third part of the version.
 pub const VERSION_PATCH: u64 = 0;
 /// The version as text.
-pub const VERSION: &str = "1.0.0";
+pub const VERSION: &str = "2.0.0";
 
 /// Code of a reset.
 pub const CODE_RESET: u64 = 0;
@@ -36,6 +36,10 @@ pub const CODE_READ: u64 = 5;
 pub const CODE_WRITE: u64 = 6;
 /// Code of BRB IALL.
 pub const CODE_IALL: u64 = 7;
+/// Code of a halt, the entry to Debug state.
+pub const CODE_HALT: u64 = 8;
+/// Code of a resume, the exit from Debug state.
+pub const CODE_RESUME: u64 = 9;
 
 /// Done.
 pub const DONE: u64 = 0;
@@ -60,6 +64,9 @@ pub const REFUSED_LEVEL: u64 = 5;
 pub const REFUSED_ROOM: u64 = 6;
 /// Refused: the state is not sound, or too short.
 pub const REFUSED_STATE: u64 = 7;
+/// Refused: the processor is halted, and the operation is a branch, an exception, a return or a halt; or it is not halted, and
+/// the operation is a resume.
+pub const REFUSED_HALTED: u64 = 8;
 /// Refused: a sum of counts passes 2^64 - 1. [`count_sum`](crate::count_sum) alone gives it.
 pub const REFUSED_SUM: u64 = 9;
 
@@ -93,7 +100,7 @@ pub const fn brbidr0_el1(size: u64) -> u64 {
 }
 
 /// How many numbers a state has.
-pub const STATE_NUMBERS: usize = 9;
+pub const STATE_NUMBERS: usize = 10;
 /// Where a state has the current level.
 pub const STATE_LEVEL: usize = 0;
 /// Where a state has the buffer's size, 0 before the first reset.
@@ -112,6 +119,8 @@ pub const STATE_BRBFCR_EL1: usize = 6;
 pub const STATE_COUNT: usize = 7;
 /// Where a state says that the next count is unknown.
 pub const STATE_UNKNOWN: usize = 8;
+/// Where a state says that the processor is halted.
+pub const STATE_HALTED: usize = 9;
 
 /// How many numbers the records of a buffer of this size take.
 pub const fn room_numbers(size: usize) -> usize {
@@ -146,6 +155,10 @@ pub const TYPE_RTN: u64 = 5;
 pub const TYPE_CONDDIR: u64 = 8;
 /// An exception return, in a record; no operation names it.
 pub const TYPE_EXCEPTION_RETURN: u64 = 7;
+/// A halt, in a record; no operation names it.
+pub const TYPE_DEBUG_HALT: u64 = 0x21;
+/// A resume, in a record; no operation names it.
+pub const TYPE_DEBUG_EXIT: u64 = 0x39;
 /// A call of a higher level.
 pub const TYPE_CALL: u64 = 0x22;
 /// A trap.

@@ -1,6 +1,9 @@
 //! Operations by name.
 
-use crate::{CODE_BRANCH, CODE_EXCEPTION, CODE_IALL, CODE_PLATFORM, CODE_READ, CODE_RESET, CODE_RETURN, CODE_WRITE};
+use crate::{
+    CODE_BRANCH, CODE_EXCEPTION, CODE_HALT, CODE_IALL, CODE_PLATFORM, CODE_READ, CODE_RESET, CODE_RESUME, CODE_RETURN,
+    CODE_WRITE,
+};
 
 /// One operation: its code, the cycles passed since the previous operation, and its fields in order. Numbers beyond the
 /// operation's own fields are not looked at.
@@ -56,5 +59,35 @@ impl Operation {
     /// BRB IALL.
     pub fn invalidate_all(cycles: u64) -> Operation {
         Operation { code: CODE_IALL, cycles, fields: [0; 4] }
+    }
+
+    /// A halt: the processor enters Debug state from this address. Until the resume branches, exceptions, returns and a second
+    /// halt are refused with [`REFUSED_HALTED`](crate::REFUSED_HALTED).
+    ///
+    /// ```
+    /// use brb::{Inf, Operation, Outcome, Recorder};
+    ///
+    /// let mut recorder = Recorder::new();
+    /// recorder.step(Operation::reset(8, true));
+    /// recorder.step(Operation::platform(0, brb::P_EL3_RECORDING));
+    /// assert!(!recorder.step(Operation::halt(100, 0x1004)).is_refusal());
+    /// assert_eq!(recorder.state()[brb::STATE_HALTED], 1);
+    /// let branch = recorder.step(Operation::branch(1, brb::TYPE_DIRECT, false, 0x1008, 0x2000));
+    /// assert_eq!(branch.outcome(), Outcome::Refused(brb::REFUSED_HALTED));
+    /// assert!(!recorder.step(Operation::resume(5000, 0x1008, brb::LEVEL_EL3)).is_refusal());
+    /// let records: Vec<[u64; 3]> = recorder.records().take(2).collect();
+    /// let [resume, halt] = [0, 1].map(|record| Inf::of(records[record][0]));
+    /// assert_eq!((halt.kind, halt.valid, halt.level), (brb::TYPE_DEBUG_HALT, brb::VALID_HALF_SOURCE, 0));
+    /// assert_eq!((resume.kind, resume.valid, resume.level), (brb::TYPE_DEBUG_EXIT, brb::VALID_HALF_TARGET, 3));
+    /// assert_eq!((records[1][1], records[0][2]), (0x1004, 0x1008));
+    /// ```
+    pub fn halt(cycles: u64, source: u64) -> Operation {
+        Operation { code: CODE_HALT, cycles, fields: [source, 0, 0, 0] }
+    }
+
+    /// A resume: the processor leaves Debug state to this address and level, which may be a higher one than that of the halt.
+    /// It is refused with [`REFUSED_HALTED`](crate::REFUSED_HALTED) where the processor is not halted.
+    pub fn resume(cycles: u64, target: u64, level: u64) -> Operation {
+        Operation { code: CODE_RESUME, cycles, fields: [target, level, 0, 0] }
     }
 }

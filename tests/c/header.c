@@ -11,8 +11,14 @@
 #include "check.h"
 
 /* Constants that fit an int can be asked by the preprocessor. */
-#if BRB_VERSION_MAJOR != 1 || BRB_STATE_NUMBERS != BRB_STATE_UNKNOWN + 1 || BRB_LARGEST_ROOM != 192
+#if BRB_VERSION_MAJOR != 2 || BRB_STATE_NUMBERS != BRB_STATE_HALTED + 1 || BRB_LARGEST_ROOM != 192
 #error "brb.h: a constant is not what it was"
+#endif
+#if BRB_STATE_HALTED != BRB_STATE_UNKNOWN + 1 || BRB_CODE_HALT != BRB_CODE_IALL + 1 || BRB_CODE_RESUME != 9
+#error "brb.h: a constant of halts is not what it was"
+#endif
+#if BRB_REFUSED_HALTED != 8 || BRB_TYPE_DEBUG_HALT != 0x21 || BRB_TYPE_DEBUG_EXIT != 0x39
+#error "brb.h: a number of halts is not what it was"
 #endif
 #if BRB_ANSWER_NUMBERS != 2 || BRB_BATCH_NUMBERS(0) != 1 || BRB_BATCH_NUMBERS(59) != 60
 #error "brb.h: a constant of batches is not what it was"
@@ -43,11 +49,13 @@ static void fields(void) {
     check(BRB_INF_MPRED_OF(inf) == 0 && BRB_INF_VALID_OF(inf) == BRB_VALID_FULL, "MPRED and VALID");
     check(BRB_INF_CCU_OF(BRB_INF_CCU) == 1 && BRB_INF_MPRED_OF(BRB_INF_MPRED) == 1, "fields of one bit");
     check(BRB_INF_CC_OF(BRB_INF_CC) == BRB_CC_EXCEEDED, "CC's width");
+    inf = (BRB_NUMBER(BRB_TYPE_DEBUG_EXIT) << 8) | BRB_INF_CCU | BRB_VALID_HALF_TARGET;
+    check(BRB_INF_TYPE_OF(inf) == BRB_TYPE_DEBUG_EXIT && BRB_INF_CCU_OF(inf) == 1, "a type of six bits");
 }
 
 static void answers(void) {
     uint64_t number;
-    for (number = 1; number <= 7; number++) check(BRB_IS_REFUSED(number), "1 to 7 are refusals");
+    for (number = 1; number <= 8; number++) check(BRB_IS_REFUSED(number), "1 to 8 are refusals");
     check(BRB_IS_REFUSED(BRB_REFUSED_SUM), "9 is a refusal");
     check(!BRB_IS_REFUSED(BRB_DONE) && !BRB_IS_REFUSED(BRB_UNDEFINED), "0 and 100 are none");
     check(!BRB_IS_REFUSED(BRB_TRAP2) && !BRB_IS_REFUSED(BRB_TRAP3), "102 and 103 are none");

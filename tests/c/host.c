@@ -1,5 +1,5 @@
-/* A C host of the library: session S1, each refusal, rooms and states at their bounds, counts and their sums, and batches,
- * through include/brb.h.
+/* A C host of the library: session S1, halts and resumes, each refusal, rooms and states at their bounds, counts and their sums,
+ * and batches, through include/brb.h.
  *
  * Every lent area is allocated with exactly the numbers that are lent, so that valgrind sees a step past its end. */
 #include "brb.h"
@@ -98,9 +98,73 @@ static void session_s1(void) {
     take_back(&l);
 }
 
+/* EL1 recorded and counting on, as in S1, and one branch that is a record. */
+static struct lent recorded_at_el1(void) {
+    static const uint64_t operations[][6] = {{0, 0, 8},        {4, 0, 49},           {6, 0, 1, 10},
+                                             {6, 0, 2, 8},     {6, 0, 3, 65536},     {3, 0, 1, 0, 128, 4096},
+                                             {1, 300, 0, 0, 4096, 4100}};
+    struct lent l = lend(BRB_STATE_NUMBERS, 0, BRB_ROOM_NUMBERS(8));
+    for (size_t i = 0; i < sizeof operations / sizeof operations[0]; i++)
+        answers(&l, operations[i], 0, 0, "a session at EL1");
+    return l;
+}
+
+/* A debugger halts the processor 100 cycles after a record and lets it go on 5,000 cycles later. */
+static void halt_and_resume(void) {
+    struct lent l = recorded_at_el1();
+    refuses(&l, OP(BRB_CODE_RESUME, 5, 4104, 1), 8, "8: a resume while not halted");
+    refuses(&l, OP(BRB_CODE_RESUME, 5, 4104, 4), 4, "4 before 8: a resume to level 4");
+    answers(&l, OP(BRB_CODE_HALT, 100, 4100), 0, 0, "a halt");
+    check(l.state[BRB_STATE_HALTED] == 1 && l.state[BRB_STATE_LEVEL] == 1, "halted at EL1");
+    check(l.state[BRB_STATE_COUNT] == 0 && l.state[BRB_STATE_UNKNOWN] == 0, "the halt's record took the count");
+    check(l.room[0] == UINT64_C(0x0000006400002102), "BRBINF of a halt: half-source, type 0x21, 100 cycles, level 0");
+    check(l.room[1] == 4100 && l.room[2] == 0, "a halt has a source and no target");
+
+    refuses(&l, OP(BRB_CODE_BRANCH, 5, 0, 0, 8, 12), 8, "8: a branch while halted");
+    refuses(&l, OP(BRB_CODE_EXCEPTION, 5, BRB_TYPE_IRQ, 1, 8, 12), 8, "8: an exception while halted");
+    refuses(&l, OP(BRB_CODE_RETURN, 5, 1, 0, 8, 12), 8, "8: a return while halted");
+    refuses(&l, OP(BRB_CODE_RETURN, 5, 2, 0, 8, 12), 8, "8 before 5: a return that goes up while halted");
+    refuses(&l, OP(BRB_CODE_HALT, 5, 4104), 8, "8: a second halt");
+    refuses(&l, OP(BRB_CODE_BRANCH, 5, 4, 0, 8, 12), 4, "4 before 8: branch type 4 while halted");
+    refuses(&l, OP(BRB_CODE_PLATFORM, 5, 49), 5, "5: a platform word while halted at EL1");
+    answers(&l, OP(BRB_CODE_READ, 0, 32), 0, UINT64_C(0x0000006400002102), "a read while halted");
+    answers(&l, OP(BRB_CODE_READ, 0, 2), 100, 0, "BRBCR_EL2 while halted at EL1 is undefined");
+    check(l.state[BRB_STATE_UNKNOWN] == 1, "what began halted makes the next count unknown");
+
+    answers(&l, OP(BRB_CODE_RESUME, 5000, 4104, 1), 0, 0, "a resume");
+    check(l.state[BRB_STATE_HALTED] == 0 && l.state[BRB_STATE_LEVEL] == 1, "not halted, at EL1");
+    check(l.room[0] == UINT64_C(0x0000400000003941), "BRBINF of a resume: half-target, type 0x39, unknown, level 1");
+    check(l.room[1] == 0 && l.room[2] == 4104, "a resume has a target and no source");
+    answers(&l, OP(BRB_CODE_BRANCH, 7, 0, 0, 4104, 4096), 0, 0, "a branch after the resume");
+    check(l.room[0] == UINT64_C(0x0000000700000043), "whose count is known");
+    take_back(&l);
+}
+
+/* Levels of a resume, a halt at a prohibited level, and a reset that ends a halt. */
+static void halts(void) {
+    struct lent l = recorded_at_el1();
+    answers(&l, OP(BRB_CODE_HALT, 0, 8), 0, 0, "a halt at EL1");
+    answers(&l, OP(BRB_CODE_RESUME, 0, 12, 3), 0, 0, "a resume that goes up to EL3");
+    check(l.state[BRB_STATE_LEVEL] == 3 && BRB_INF_TYPE_OF(l.room[0]) == BRB_TYPE_DEBUG_HALT, "EL3 is prohibited: no record");
+    answers(&l, OP(BRB_CODE_HALT, 0, 8), 0, 0, "a halt at EL3");
+    check(BRB_INF_TYPE_OF(l.room[0]) == BRB_TYPE_DEBUG_HALT && l.room[6] == 0, "EL3 is prohibited: no record again");
+    answers(&l, OP(BRB_CODE_PLATFORM, 0, 0), 0, 0, "a platform word while halted at EL3");
+    refuses(&l, OP(BRB_CODE_RESUME, 5, 12, 2), 5, "5: a resume to level 2 with EL2 not enabled");
+    answers(&l, OP(BRB_CODE_PLATFORM, 0, BRB_P_NS | BRB_P_TGE), 0, 0, "TGE, with EL2 enabled");
+    refuses(&l, OP(BRB_CODE_RESUME, 5, 12, 1), 5, "5: a resume to level 1 with TGE");
+    l.room_numbers--;
+    refuses(&l, OP(BRB_CODE_HALT, 5, 12), 8, "8 before 6: a second halt in a room that is too short");
+    refuses(&l, OP(BRB_CODE_RESUME, 5, 12, 2), 6, "6: a resume in a room that is too short");
+    l.room_numbers++;
+    answers(&l, OP(BRB_CODE_RESET, 0, 8, 0), 0, 0, "a reset while halted");
+    check(l.state[BRB_STATE_HALTED] == 0, "a reset ends the halt");
+    refuses(&l, OP(BRB_CODE_RESUME, 5, 12, 3), 8, "8: a resume after it");
+    take_back(&l);
+}
+
 static void refusals(void) {
     struct lent l = lend(BRB_STATE_NUMBERS, 0, BRB_ROOM_NUMBERS(8));
-    refuses(&l, OP(8, 5), 2, "2: code 8 before a reset");
+    refuses(&l, OP(10, 5), 2, "2: code 10 before a reset");
     refuses(&l, OP(1, 5, 99), 3, "3: a branch before a reset");
     refuses(&l, OP(0, 5, 9), 4, "4: a size of 9");
     refuses(&l, OP(0, 5, 16), 6, "6: a reset to 16 records in a room for 8");
@@ -120,7 +184,7 @@ static void refusals(void) {
     refuses(&l, OP(5, 5, 1), 6, "6: a read with a room one number too short");
     l.room_numbers++;
     l.state[0] = 2;
-    refuses(&l, OP(8, 5), 7, "7: level 2 with EL2 not enabled, before an unknown code");
+    refuses(&l, OP(10, 5), 7, "7: level 2 with EL2 not enabled, before an unknown code");
     take_back(&l);
 }
 
@@ -139,10 +203,10 @@ static void rooms(void) {
         take_back(&short_room);
 
         struct lent wide = lend(BRB_STATE_NUMBERS + 2, 0, needed + 2);
-        wide.state[9] = wide.state[10] = 5;
+        wide.state[BRB_STATE_NUMBERS] = wide.state[BRB_STATE_NUMBERS + 1] = 5;
         answers(&wide, OP(0, 1, sizes[i], 1), 0, 0, "a reset in a wider room");
         check(wide.room[needed] == 7 && wide.room[needed + 1] == 7, "numbers past the needed room are not written");
-        check(wide.state[9] == 5 && wide.state[10] == 5, "numbers past the state are not written");
+        check(wide.state[BRB_STATE_NUMBERS] == 5 && wide.state[BRB_STATE_NUMBERS + 1] == 5, "numbers past the state are not written");
         take_back(&wide);
     }
     struct lent empty = lend(BRB_STATE_NUMBERS, 0, 0);
@@ -150,9 +214,12 @@ static void rooms(void) {
     take_back(&empty);
 }
 
+/* For each number of a state one that is not sound. */
+static const uint64_t unsound[BRB_STATE_NUMBERS] = {4, 9, 2, 0x80, 4, 4, 1, 1048577, 2, 2};
+
 static void states(void) {
     struct lent fresh = lend(BRB_STATE_NUMBERS, 0, BRB_ROOM_NUMBERS(8));
-    for (uint64_t code = 1; code <= 7; code++) refuses(&fresh, OP(code, 1), 3, "a fresh state takes only a reset");
+    for (uint64_t code = 1; code <= 9; code++) refuses(&fresh, OP(code, 1), 3, "a fresh state takes only a reset");
     take_back(&fresh);
 
     struct lent garbage = lend(BRB_STATE_NUMBERS, UINT64_C(0xDEADBEEFDEADBEEF), BRB_ROOM_NUMBERS(8));
@@ -165,7 +232,6 @@ static void states(void) {
         take_back(&cut);
     }
 
-    static const uint64_t unsound[BRB_STATE_NUMBERS] = {4, 9, 2, 0x80, 4, 4, 1, 1048577, 2};
     for (size_t place = 0; place < BRB_STATE_NUMBERS; place++) {
         struct lent l = lend(BRB_STATE_NUMBERS, 0, BRB_ROOM_NUMBERS(8));
         l.state[place] = unsound[place];
@@ -336,7 +402,6 @@ static void batch_of_s1(void) {
 }
 
 static void batch_states(void) {
-    static const uint64_t unsound[BRB_STATE_NUMBERS] = {4, 9, 2, 0x80, 4, 4, 1, 1048577, 2};
     for (size_t place = 0; place < BRB_STATE_NUMBERS; place++) {
         struct lent l = lend(BRB_STATE_NUMBERS, 0, BRB_ROOM_NUMBERS(8)), cut = lend(place, 0, BRB_ROOM_NUMBERS(8));
         l.state[place] = unsound[place];
@@ -350,12 +415,14 @@ static void batch_states(void) {
     }
 }
 
-/* No bytes, refused operations in the middle, an unknown code, and S1 with each byte cut and changed. */
+/* No bytes, refused operations in the middle, halts, an unknown code, and S1 with each byte cut and changed. */
 static void batch_runs(void) {
     static const uint8_t refused[] = {7, 0, 0, 0, 9, 0, 0, 0, 16, 0, 0, 0, 8, 0, 2, 0, 34, 0, 0, 0, 5, 0, 0};
-    static const uint8_t unknown[] = {0, 0, 8, 0, 8, 5, 0, 0};
+    static const uint8_t halted[] = {0, 0, 8, 0, 9, 0, 4, 3, 8, 5, 4, 8, 5, 4, 1, 0, 0, 0, 4, 8, 4, 0, 49, 5, 0, 0, 9, 5, 8, 1, 5, 0, 2};
+    static const uint8_t unknown[] = {0, 0, 8, 0, 10, 5, 0, 0};
     check(batch_is_single_calls(s1, 0, BRB_ROOM_NUMBERS(8), "no bytes") == 0, "no bytes have no answer");
     check(batch_is_single_calls(refused, sizeof refused, BRB_ROOM_NUMBERS(8), "3, 4, 6 and 5") == 6, "it goes on");
+    check(batch_is_single_calls(halted, sizeof halted, BRB_ROOM_NUMBERS(8), "halts and 8") == 9, "it goes on after 8");
     check(batch_is_single_calls(unknown, sizeof unknown, BRB_ROOM_NUMBERS(8), "an unknown code") == 2, "2 is the last");
     check(batch_is_single_calls(s1, sizeof s1, 0, "no room") == 12, "each has its own 6");
     for (size_t i = 0; i < sizeof s1; i++) {
@@ -369,6 +436,8 @@ static void batch_runs(void) {
 
 int main(void) {
     session_s1();
+    halt_and_resume();
+    halts();
     refusals();
     rooms();
     states();

@@ -47,19 +47,20 @@ use Rattle.face.proofs.Runs.{call-left, recorded-call}
 
 -- ---- behind an operation that was read, a host reads on
 
-of-lines : (a b c d : Bool) {n : ℕ} → First ((3, a) ∷ (4, b) ∷ (5, c) ∷ (6, d) ∷ []) n → oneOf (7 ∷ 1 ∷ 2 ∷ []) n ≡ false
-of-lines true b c d here = refl
-of-lines false true c d (later here) = refl
-of-lines false false true d (later (later here)) = refl
-of-lines false false false true (later (later (later here))) = refl
-of-lines false false false false (later (later (later (later none)))) = refl
+of-lines : (a b c d e : Bool) {n : ℕ} → First ((3, a) ∷ (4, b) ∷ (8, c) ∷ (5, d) ∷ (6, e) ∷ []) n → oneOf (7 ∷ 1 ∷ 2 ∷ []) n ≡ false
+of-lines true b c d e here = refl
+of-lines false true c d e (later here) = refl
+of-lines false false true d e (later (later here)) = refl
+of-lines false false false true e (later (later (later here))) = refl
+of-lines false false false false true (later (later (later (later here)))) = refl
+of-lines false false false false false (later (later (later (later (later none))))) = refl
 
 reads-on : (s : State) (o : Operation) (cycles : ℕ) (room : List ℕ) → sound s ≡ true → unknownCode o ≡ false
     → oneOf (7 ∷ 1 ∷ 2 ∷ []) (returned (stepOf s o cycles room .answer) .number) ≡ false
 reads-on s o cycles room h k = go (rw (h, k) at (step-number s o cycles room))
   where
-    go : {a b c d : Bool} {n : ℕ} → AnswersBy ((7, false) ∷ (2, false) ∷ (3, a) ∷ (4, b) ∷ (5, c) ∷ (6, d) ∷ []) n → oneOf (7 ∷ 1 ∷ 2 ∷ []) n ≡ false
-    go (refuses (later (later f)) some) = of-lines _ _ _ _ f
+    go : {a b c d e : Bool} {n : ℕ} → AnswersBy ((7, false) ∷ (2, false) ∷ (3, a) ∷ (4, b) ∷ (8, c) ∷ (5, d) ∷ (6, e) ∷ []) n → oneOf (7 ∷ 1 ∷ 2 ∷ []) n ≡ false
+    go (refuses (later (later f)) some) = of-lines _ _ _ _ _ f
     go (accepts f done) = refl
     go (accepts f undefined) = refl
     go (accepts f trap2) = refl

@@ -9,6 +9,7 @@ use Rattle.count.specs.declared.Spread.{Spread}
 use Rattle.count.specs.Count.{smallestOf, largestOf, decoded, fromTo, atLeast, refusedWith, spreadOf}
 use Rattle.sum.specs.Sum.{added, every, sumOf, summed}
 use Rattle.number.specs.Number.{numberIn, numberAt}
+use Rattle.state.specs.Parts.{stateNumbers}
 use Rattle.state.specs.Sound.{unavailable, sound}
 use Rattle.state.specs.Words.{loaded, judged, stored}
 use Rattle.room.specs.Room.{records, cleared, roomAfter}
@@ -26,12 +27,12 @@ use Rattle.batch.specs.Run.{readFrom, readings}
 use Rattle.batch.specs.Batch.{Batch, batched, steps, inNumbers, batchOf}
 use Rattle.brb.specs.Recordings.{recordedResult, batchResult}
 
--- The nine numbers of a state with a level, size 8 and a P.
+-- The numbers of a state with a level, size 8 and a P, that is not halted.
 abbrev words : ℕ → ℕ → List ℕ
-words level p = level ∷ 8 ∷ 0 ∷ p ∷ 0 ∷ 0 ∷ 0 ∷ 0 ∷ 1 ∷ []
+words level p = level ∷ 8 ∷ 0 ∷ p ∷ 0 ∷ 0 ∷ 0 ∷ 0 ∷ 1 ∷ 0 ∷ []
 
 abbrev fresh : List ℕ
-fresh = replicate 9 0
+fresh = replicate stateNumbers 0
 
 -- The number of one step without cycles, in a room of so many zeros.
 abbrev number : List ℕ → ℕ → ℕ → ℕ → ℕ → ℕ
@@ -41,9 +42,10 @@ number state room code a b = stepResult state code 0 a b 0 0 (replicate room 0) 
 abbrev recorded : List ℕ → List ℕ → ℕ
 recorded state bytes = recordedResult state [] bytes 0 .answer .number
 
--- 7 for too few numbers and for a level 4; 2 for code 8; 3 for BRB IALL before a reset; 4 for the size 9; 5 for an exception to EL0; 6 for
--- too short a room. Accepted: a reset; a write at EL0; a write at EL1 that nBRBCTL traps; one that SBRBE 0 traps.
-pub each-number : number [] 24 0 8 0 ∷ number (words 4 0) 24 0 8 0 ∷ number fresh 24 8 0 0 ∷ number fresh 24 7 0 0 ∷ number fresh 24 0 9 0
+-- 7 for too few numbers and for a level 4; 2 for code 10; 3 for BRB IALL before a reset; 4 for the size 9; 8 for a resume of what is not
+-- halted; 5 for an exception to EL0; 6 for too short a room. Accepted: a reset; a write at EL0; a write at EL1 that nBRBCTL traps; one that SBRBE 0 traps.
+pub each-number : number [] 24 0 8 0 ∷ number (words 4 0) 24 0 8 0 ∷ number fresh 24 10 0 0 ∷ number fresh 24 7 0 0 ∷ number fresh 24 0 9 0
+    ∷ number (words 3 0) 24 9 0 0
     ∷ number (words 3 0) 24 2 0x22 0
     ∷ number fresh 23 0 8 0
     ∷ number fresh 24 0 8 0
@@ -51,22 +53,22 @@ pub each-number : number [] 24 0 8 0 ∷ number (words 4 0) 24 0 8 0 ∷ number 
     ∷ number (words 1 0x101) 24 6 1 0
     ∷ number (words 1 1) 24 6 1 0
     ∷ []
-    ≡ 7 ∷ 7 ∷ 2 ∷ 3 ∷ 4 ∷ 5 ∷ 6 ∷ 0 ∷ 100 ∷ 102 ∷ 103 ∷ []
+    ≡ 7 ∷ 7 ∷ 2 ∷ 3 ∷ 4 ∷ 8 ∷ 5 ∷ 6 ∷ 0 ∷ 100 ∷ 102 ∷ 103 ∷ []
 unfolding loaded judged stored unavailable sound cleared roomAfter enabled prohibited nBit trapped2 outcome readOutcome writeOutcome registerWritten operationOf unknownCode notReset outsideList wrongHalted wrongLevel roomTooShort refusalOf changed occasion passed effectOf answerOf accepted stepOf lentStep stepResult
 each-number = refl
 
--- 7 with nothing read; 1 at the end of the input; 2 for code 8, whose cycles are not there; 1 for code 0 without cycles; 3 for BRB IALL
+-- 7 with nothing read; 1 at the end of the input; 2 for code 10, whose cycles are not there; 1 for code 0 without cycles; 3 for BRB IALL
 -- before a reset.
-pub each-recorded : recorded [] [] ∷ recorded fresh [] ∷ recorded fresh (8 ∷ []) ∷ recorded fresh (0 ∷ []) ∷ recorded fresh (7 ∷ 0 ∷ []) ∷ []
+pub each-recorded : recorded [] [] ∷ recorded fresh [] ∷ recorded fresh (10 ∷ []) ∷ recorded fresh (0 ∷ []) ∷ recorded fresh (7 ∷ 0 ∷ []) ∷ []
     ≡ 7 ∷ 1 ∷ 2 ∷ 1 ∷ 3 ∷ []
 unfolding numberIn numberAt loaded judged stored unavailable sound operationOf unknownCode notReset outsideList wrongHalted wrongLevel roomTooShort refusalOf changed stepOf fieldCount numbersAt operationAt recordedResult
 each-recorded = refl
 
--- A run of a BRB IALL before a reset, a reset, a read of BRBIDR0_EL1 and a code 8, which ends it before its last byte: 3 is answered and the
+-- A run of a BRB IALL before a reset, a reset, a read of BRBIDR0_EL1 and a code 10, which ends it before its last byte: 3 is answered and the
 -- batch goes on, and 2 is its last answer. Nine numbers have room for the eight; seven have not, and then nothing is changed; nor where there
 -- is no state.
 abbrev batch : List ℕ → ℕ → Batch Returned
-batch state size = batchResult state (replicate 24 5) (7 ∷ 0 ∷ 0 ∷ 0 ∷ 8 ∷ 0 ∷ 5 ∷ 0 ∷ 0 ∷ 8 ∷ 0 ∷ []) (replicate size 9)
+batch state size = batchResult state (replicate 24 5) (7 ∷ 0 ∷ 0 ∷ 0 ∷ 8 ∷ 0 ∷ 5 ∷ 0 ∷ 0 ∷ 10 ∷ 0 ∷ []) (replicate size 9)
 
 pub closed-batch : (batch fresh 9 ≡ batched (record { number = 0; value = 4 }) (words 3 0) (replicate 24 0) (3 ∷ 0 ∷ 0 ∷ 0 ∷ 0 ∷ 0x5008 ∷ 2 ∷ 0 ∷ 9 ∷ []))
     × (batch fresh 7 ≡ batched (record { number = 6; value = 0 }) fresh (replicate 24 5) (replicate 7 9))

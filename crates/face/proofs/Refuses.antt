@@ -87,10 +87,10 @@ unfolding stepResult lentStep loaded judged
 step-answers words room code cycles a b c d = go (judge words)
   where
     go : Judged words → AnswersBy (stepLines words (operationOf code a b c d) (length room)) (stepResult words code cycles a b c d room .answer .number)
-    go (few h) = rw (lt-ltb (length words) 9 h, lt-leb 9 (length words) h) stopped
-    go (unsound h e) = rw (le-ltb (length words) 9 h, le-leb 9 (length words) h, e) (passed-over stopped)
+    go (few h) = rw (lt-ltb (length words) stateNumbers h, lt-leb stateNumbers (length words) h) stopped
+    go (unsound h e) = rw (le-ltb (length words) stateNumbers h, le-leb stateNumbers (length words) h, e) (passed-over stopped)
     go (holds h e) =
-        rw (le-ltb (length words) 9 h, le-leb 9 (length words) h, e)
+        rw (le-ltb (length words) stateNumbers h, le-leb stateNumbers (length words) h, e)
         (passed-over (rw e at (step-number (stateOf words) (operationOf code a b c d) cycles room)))
 
 -- ---- reading an operation
@@ -155,7 +155,9 @@ known-code (suc (suc (suc (suc zero)))) a b c d h = refl
 known-code (suc (suc (suc (suc (suc zero))))) a b c d h = refl
 known-code (suc (suc (suc (suc (suc (suc zero)))))) a b c d h = refl
 known-code (suc (suc (suc (suc (suc (suc (suc zero))))))) a b c d h = refl
-known-code (suc (suc (suc (suc (suc (suc (suc (suc code)))))))) a b c d h = absurd (omega arith)
+known-code (suc (suc (suc (suc (suc (suc (suc (suc zero)))))))) a b c d h = refl
+known-code (suc (suc (suc (suc (suc (suc (suc (suc (suc zero))))))))) a b c d h = refl
+known-code (suc (suc (suc (suc (suc (suc (suc (suc (suc (suc code)))))))))) a b c d h = absurd (omega arith)
 
 -- What answers by lines of which the first does not hold answers by the others.
 behind : {n m : ℕ} {lines : Lines} → AnswersBy ((n, false) ∷ lines) m → AnswersBy lines m
@@ -184,10 +186,10 @@ recorded-answers words room bytes at = go (judge words)
         behind (rw (known-code (x .code) (x .a) (x .b) (x .c) (x .d) known) at (behind (rw e at (step-number s (operationOf (x .code) (x .a) (x .b) (x .c) (x .d)) (x .cycles) room))))
 
     go : Judged words → AnswersBy (recordedLines words bytes at (length room)) (recordedResult words room bytes at .answer .number)
-    go (few h) = rw (lt-ltb (length words) 9 h, lt-leb 9 (length words) h) stopped
-    go (unsound h e) = rw (le-ltb (length words) 9 h, le-leb 9 (length words) h, e) (passed-over stopped)
+    go (few h) = rw (lt-ltb (length words) stateNumbers h, lt-leb stateNumbers (length words) h) stopped
+    go (unsound h e) = rw (le-ltb (length words) stateNumbers h, le-leb stateNumbers (length words) h, e) (passed-over stopped)
     go (holds h e) =
-        rw (le-ltb (length words) 9 h, le-leb 9 (length words) h, e, by-reading (operationAt bytes at))
+        rw (le-ltb (length words) stateNumbers h, le-leb stateNumbers (length words) h, e, by-reading (operationAt bytes at))
         (passed-over (passed-over (reading-then answers bytes at _ after (stepped e _))))
 
 -- ---- brb_recording_read
@@ -227,10 +229,10 @@ batch-answers words room bytes answers = go (judge words) (ltb (length answers) 
     go : Judged words → (t : Bool)
         → First (tooFew words ∷ (7, not (sound (stateOf words))) ∷ (6, t) ∷ [])
         (returned (ifSound (cond (leb stateNumbers (length words)) (cond (sound (stateOf words)) (Held (stateOf words)) Unsound) Unsound) (λ s. cond t (batched (Answer.Refused 6) words room answers) (doneAll (steps (readings bytes) words room) answers)) (λ n. batched (Answer.Refused n) words room answers) .answer) .number)
-    go (few h) t = rw (lt-ltb (length words) 9 h, lt-leb 9 (length words) h) here
-    go (unsound h e) t = rw (le-ltb (length words) 9 h, le-leb 9 (length words) h, e) (later here)
-    go (holds h e) true = rw (le-ltb (length words) 9 h, le-leb 9 (length words) h, e) (later (later here))
-    go (holds h e) false = rw (le-ltb (length words) 9 h, le-leb 9 (length words) h, e) (later (later (later none)))
+    go (few h) t = rw (lt-ltb (length words) stateNumbers h, lt-leb stateNumbers (length words) h) here
+    go (unsound h e) t = rw (le-ltb (length words) stateNumbers h, le-leb stateNumbers (length words) h, e) (later here)
+    go (holds h e) true = rw (le-ltb (length words) stateNumbers h, le-leb stateNumbers (length words) h, e) (later (later here))
+    go (holds h e) false = rw (le-ltb (length words) stateNumbers h, le-leb stateNumbers (length words) h, e) (later (later (later none)))
 
 -- Where it refuses, the value is 0 and state, room and answers are as they were.
 pub batch-refused : (words room bytes answers : List ℕ) → batchResult words room bytes answers .answer .number ≢ 0

@@ -106,9 +106,9 @@ held-lent x s e = rw (kept (x .words) s e)
 -- Nine zeros hold the fresh state, so that every sequence of a host that begins with them is a run from it. Closed: a reset, and then a
 -- read of BRBIDR0_EL1, which answers 0x5008.
 abbrev start : Lent
-start = record { words = replicate 9 0; room = replicate 24 0 }
+start = record { words = replicate stateNumbers 0; room = replicate 24 0 }
 
-pub closed-calls : (loaded (replicate 9 0) ≡ Held fresh)
+pub closed-calls : (loaded (replicate stateNumbers 0) ≡ Held fresh)
     × (stepCall (calls start (numbers 0 0 8 0 0 0 ∷ [])) (numbers 5 3 0 0 0 0) .answer ≡ record { number = 0; value = 0x5008 })
 unfolding loaded judged stored unavailable sound calls stepResult lentStep stepOf accepted answerOf refusalOf unknownCode notReset outsideList wrongHalted wrongLevel roomTooShort changed occasion passed effectOf roomAfter cleared records readOutcome outcome trapped2 nBit registerValue operationOf prohibited enabled
 closed-calls = (refl, refl)

@@ -84,7 +84,7 @@ abbrev pub readingLines : List ℕ → ℕ → Lines
 readingLines bytes at =
     (1, not (isNumber (numberAt bytes at))) ∷ (2, ltb lastCode (codeAt bytes at)) ∷ (1, not (areNumbers (restAt bytes at))) ∷ []
 
--- `brb_step_recorded`: 7; then 1, 2 and 1 of reading; then the rest of the table, 3, 4, 5 and 6.
+-- `brb_step_recorded`: 7; then 1, 2 and 1 of reading; then the rest of the table, 3, 4, 8, 5 and 6.
 abbrev pub recordedLines : List ℕ → List ℕ → ℕ → ℕ → Lines
 recordedLines words bytes at room =
     tooFew words ∷ (7, not (sound (stateOf words))) ∷ (readingLines bytes at ++ drop 2 (table (stateOf words) (operationIn bytes at) room))

@@ -43,13 +43,13 @@ pub fn set_up(size: u64) -> [Numbers; 6] {
 /// A state and a room in which every branch becomes a record with a known count.
 #[derive(Clone, PartialEq, Eq)]
 pub struct Lent {
-    pub state: [u64; 9],
+    pub state: [u64; brb::STATE_NUMBERS],
     pub room: Vec<u64>,
 }
 
 impl Lent {
     pub fn set_up(size: u64, step: Step) -> Lent {
-        let mut lent = Lent { state: [0; 9], room: vec![0; 192] };
+        let mut lent = Lent { state: [0; brb::STATE_NUMBERS], room: vec![0; 192] };
         for numbers in set_up(size) {
             assert_eq!(step(&mut lent.state, &mut lent.room, numbers), (0, 0));
         }

@@ -13,9 +13,9 @@ impl Call {
         self.0[1]
     }
 
-    /// Codes 1, 2 and 3.
+    /// Codes 1, 2 and 3, and halts and resumes, 8 and 9.
     pub fn is_event(&self) -> bool {
-        matches!(self.code(), 1..=3)
+        matches!(self.code(), 1..=3 | 8 | 9)
     }
 
     /// How many of the six numbers belong to the operation; an unknown code has none but itself and cycles.

@@ -3,8 +3,10 @@
 //! largest, and T the exact cycles that passed from the oldest's event to the newest's. T lies between the two and near the
 //! first: S <= T, 256 (T - S) <= S, and T <= U. The longest stretch from each record is added up by the library too.
 //!
-//! Each event gets addresses that no other has, so that a record itself says which event it came from.
+//! Each event gets addresses that no other has, so that a record itself says which event it came from. A halt hands in its
+//! source alone and a resume its target, and their records show no more.
 
+use crate::engine::is_refused;
 use crate::generate::{Flavour, Generator};
 use crate::shrink::shrink;
 use crate::{Call, Engine, Random, Sequence};
@@ -15,6 +17,9 @@ use std::ops::AddAssign;
 const BASE: u64 = 1 << 40;
 /// How many operations pass between two looks at all the records.
 const INTERVAL: usize = 16;
+/// What the sequences are mostly about.
+const FLAVOURS: [Flavour; 5] =
+    [Flavour::Recording, Flavour::Recording, Flavour::Boundary, Flavour::Roaming, Flavour::Halting];
 
 /// When each event of a sequence happened, by the cycles of accepted operations.
 #[derive(Default)]
@@ -28,17 +33,17 @@ impl Bookkeeping {
     fn tagged(&self, call: Call) -> Call {
         let Call([code, cycles, a, b, ..]) = call;
         let source = BASE + 2 * self.times.len() as u64;
-        if call.is_event() {
-            Call([code, cycles, a, b, source, source + 1])
-        } else {
-            call
+        match code {
+            1..=3 => Call([code, cycles, a, b, source, source + 1]),
+            8 => Call([code, cycles, source, 0, 0, 0]),
+            9 => Call([code, cycles, source + 1, b, 0, 0]),
+            _ => call,
         }
     }
 
     /// Notes an answered operation: refused ones and resets take no time.
     fn note(&mut self, call: Call, number: u64) {
-        let refused = (1..=7).contains(&number);
-        if !refused && call.code() != 0 {
+        if !is_refused(number) && call.code() != 0 {
             self.clock += u128::from(call.cycles());
         }
         if call.is_event() {
@@ -70,13 +75,15 @@ impl Bookkeeping {
 
     /// What a record says, and when its event happened.
     fn shown(&self, record: &[u64]) -> Shown {
-        Shown { valid: valid(record) != 0, time: self.time(record), ends: ends(record[0]) }
+        let kind = brb::inf_type_of(record[0]);
+        Shown { valid: valid(record) != 0, kind, time: self.time(record), ends: ends(record[0]) }
     }
 }
 
 /// A record, as far as demand 3 speaks of it.
 struct Shown {
     valid: bool,
+    kind: u64,
     /// When its event happened; none where it has no event's address.
     time: Option<u128>,
     /// The smallest and the largest count that it may have, where it is valid and its count known and not exceeded.
@@ -96,6 +103,10 @@ pub struct Kept {
     pub stretches: u64,
     /// Those of them whose S and U differ.
     pub spread: u64,
+    /// Those that end with a halt's record, whose count is known.
+    pub to_halts: u64,
+    /// Those that begin with a resume's record, whose count never is.
+    pub from_resumes: u64,
 }
 
 impl Kept {
@@ -113,6 +124,8 @@ impl Kept {
                 .map_err(|how| format!("records {newest} to {oldest}: {how}"))?;
             self.stretches += 1;
             self.spread += u64::from(sum.smallest < sum.largest);
+            self.to_halts += u64::from(shown[newest].kind == brb::TYPE_DEBUG_HALT);
+            self.from_resumes += u64::from(shown[oldest].kind == brb::TYPE_DEBUG_EXIT);
         }
         Ok((shown.len() - 1 - newest, sum))
     }
@@ -122,6 +135,8 @@ impl AddAssign for Kept {
     fn add_assign(&mut self, more: Kept) {
         self.stretches += more.stretches;
         self.spread += more.spread;
+        self.to_halts += more.to_halts;
+        self.from_resumes += more.from_resumes;
     }
 }
 
@@ -195,7 +210,7 @@ pub fn explore(engine: &dyn Engine, random: &mut Random, operations: u64) -> Res
     let (mut done, mut kept) = (0, Kept::default());
     while done < operations {
         let length = 1 << (5 + random.below(6));
-        let flavour = random.one_of(&[Flavour::Recording, Flavour::Recording, Flavour::Boundary, Flavour::Roaming]);
+        let flavour = random.one_of(&FLAVOURS);
         let mut generator = Generator::new(random, flavour);
         let mut calls = Vec::with_capacity(length);
         let next = |state: &[u64]| {

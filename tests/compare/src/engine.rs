@@ -90,6 +90,11 @@ pub(crate) fn numbered(outcome: Result<usize, Refusal>) -> (u64, u64) {
     }
 }
 
+/// Whether an answer's number is a refusal: those of accepted operations are 0 and from 100 on.
+pub(crate) fn is_refused(number: u64) -> bool {
+    (1..100).contains(&number)
+}
+
 /// A state and a room that an engine works on.
 #[derive(Clone, Debug, PartialEq, Eq)]
 pub struct Lent {
@@ -126,7 +131,7 @@ impl Lent {
 }
 
 fn state_place(place: usize) -> String {
-    let names = ["level", "size", "v1p1", "P", "BRBCR_EL1", "BRBCR_EL2", "BRBFCR_EL1", "count", "unknown"];
+    let names = ["level", "size", "v1p1", "P", "BRBCR_EL1", "BRBCR_EL2", "BRBFCR_EL1", "count", "unknown", "halted"];
     format!("state number {place} ({})", names.get(place).unwrap_or(&"past the state"))
 }
 

@@ -4,7 +4,7 @@
 use crate::engine::Lent;
 use crate::shares::REASONS;
 use crate::{Call, Random, Single};
-use model::{BranchType, Platform, CONTROL_MASK, EXCEPTION_TYPES, FILTER_MASK, LAST_CODE};
+use model::{BranchType, Platform, State, CONTROL_MASK, EXCEPTION_TYPES, FILTER_MASK, LAST_CODE};
 use std::collections::VecDeque;
 
 const SIZES: [u64; 4] = [8, 16, 32, 64];
@@ -21,37 +21,51 @@ pub enum Flavour {
     Boundary,
     /// Accesses, with traps and at every level.
     Accessing,
+    /// As `Roaming`, with a halt or a resume every few operations.
+    Halting,
     /// Every other operation has a mistake.
     Careless,
 }
 
 impl Flavour {
-    pub const ALL: [Flavour; 5] =
-        [Flavour::Recording, Flavour::Roaming, Flavour::Boundary, Flavour::Accessing, Flavour::Careless];
+    pub const ALL: [Flavour; 6] = [
+        Flavour::Recording,
+        Flavour::Roaming,
+        Flavour::Boundary,
+        Flavour::Accessing,
+        Flavour::Halting,
+        Flavour::Careless,
+    ];
 
-    /// How often an operation of each code is made; the last is that of a mistake.
-    fn weights(self) -> [u64; 9] {
+    /// How often an operation of each code is made; the last is that of a mistake. Whether the processor is halted decides what
+    /// becomes of it then ([`Generator::taken_while_halted`]).
+    fn weights(self) -> [u64; MISTAKE + 1] {
         match self {
-            Flavour::Recording => [2, 600, 150, 150, 10, 40, 30, 4, 10],
-            Flavour::Roaming => [10, 200, 200, 200, 80, 100, 150, 10, 40],
-            Flavour::Boundary => [2, 500, 150, 150, 10, 40, 40, 10, 10],
-            Flavour::Accessing => [5, 30, 100, 150, 60, 350, 200, 80, 20],
-            Flavour::Careless => [40, 100, 100, 100, 50, 60, 60, 20, 500],
+            Flavour::Recording => [2, 600, 150, 150, 10, 40, 30, 4, 10, 0, 10],
+            Flavour::Roaming => [10, 200, 200, 200, 80, 100, 150, 10, 20, 10, 40],
+            Flavour::Boundary => [2, 500, 150, 150, 10, 40, 40, 10, 20, 0, 10],
+            Flavour::Accessing => [5, 30, 100, 150, 60, 350, 200, 80, 20, 10, 20],
+            Flavour::Halting => [10, 150, 100, 100, 60, 60, 80, 10, 150, 150, 40],
+            Flavour::Careless => [40, 100, 100, 100, 50, 60, 60, 20, 50, 30, 500],
         }
     }
 }
+
+/// The place of mistakes among the weights, behind those of the codes.
+const MISTAKE: usize = LAST_CODE as usize + 1;
 
 /// A state's numbers by name, whatever they are.
 struct Seen {
     level: u64,
     platform: u64,
     count: u64,
+    halted: bool,
 }
 
 impl Seen {
     fn new(state: &[u64]) -> Seen {
         let number = |place: usize| state.get(place).copied().unwrap_or(0);
-        Seen { level: number(0).min(3), platform: number(3), count: number(7) }
+        Seen { level: number(0).min(3), platform: number(3), count: number(7), halted: number(9) == 1 }
     }
 
     fn el2_enabled(&self) -> bool {
@@ -90,8 +104,8 @@ impl<'r> Generator<'r> {
     /// Most sequences begin with a reset, some with operations before it.
     fn begin(&mut self) {
         while self.random.percent(15) {
-            let code = self.random.below(8);
-            let early = self.valid(code, &Seen::new(&[]));
+            let code = self.random.below(LAST_CODE + 1);
+            let early = self.of_code(code, &Seen::new(&[]));
             self.queue.push_back(early);
         }
         self.queue_reset();
@@ -103,23 +117,22 @@ impl<'r> Generator<'r> {
             return call;
         }
         let seen = Seen::new(state);
-        let kind = self.weighted();
-        match kind {
+        match self.weighted() {
             0 => {
                 self.queue_reset();
                 self.queue.pop_front().expect("a reset was queued")
             }
-            8 => self.mistaken(&seen),
-            code => self.valid(code, &seen),
+            MISTAKE => self.mistaken(&seen),
+            code => self.valid(code as u64, &seen),
         }
     }
 
-    fn weighted(&mut self) -> u64 {
+    fn weighted(&mut self) -> usize {
         let weights = self.flavour.weights();
         let mut drawn = self.random.below(weights.iter().sum());
         for (kind, weight) in weights.into_iter().enumerate() {
             if drawn < weight {
-                return kind as u64;
+                return kind;
             }
             drawn -= weight;
         }
@@ -133,7 +146,7 @@ impl<'r> Generator<'r> {
         if self.random.percent(10) {
             return;
         }
-        let at_el3 = Seen { level: 3, platform: 0, count: 0 };
+        let at_el3 = Seen { level: 3, platform: 0, count: 0, halted: false };
         let platform = self.valid(4, &at_el3);
         let seen = Seen { platform: platform.0[2], ..at_el3 };
         let (cr1, cr2, fcr) = (self.control(), self.control(), self.filter());
@@ -149,11 +162,29 @@ impl<'r> Generator<'r> {
     /// An operation of a code that a state mostly accepts.
     fn valid(&mut self, code: u64, seen: &Seen) -> Call {
         let code = match code {
-            // What the level does not permit becomes something near it.
+            // What a halt or the level does not permit becomes something near it.
+            1..=3 | 8 if seen.halted => self.taken_while_halted(seen),
+            9 if !seen.halted => 8,
             3 if seen.level == 0 => 2,
             4 if seen.level != 3 => 5,
             code => code,
         };
+        self.of_code(code, seen)
+    }
+
+    /// A resume, mostly, or an operation that a halted processor takes too.
+    fn taken_while_halted(&mut self, seen: &Seen) -> u64 {
+        match self.random.below(10) {
+            0 if seen.level == 3 => 4,
+            0 | 1 => 5,
+            2 => 6,
+            3 => 7,
+            _ => 9,
+        }
+    }
+
+    /// An operation of just this code, with fields inside their lists.
+    fn of_code(&mut self, code: u64, seen: &Seen) -> Call {
         let cycles = self.cycles(seen);
         let fields = match code {
             0 => [self.random.one_of(&SIZES), self.random.below(2), self.beyond(), self.beyond()],
@@ -166,26 +197,35 @@ impl<'r> Generator<'r> {
                 let (register, value) = self.write();
                 [register, value, self.beyond(), self.beyond()]
             }
+            8 => [self.address(), self.beyond(), self.beyond(), self.beyond()],
+            9 => [self.address(), self.resume_level(seen), self.beyond(), self.beyond()],
             _ => [self.beyond(), self.beyond(), self.beyond(), self.beyond()],
         };
         let [a, b, c, d] = fields;
         Call([code, cycles, a, b, c, d])
     }
 
-    /// An operation that is mostly refused: an unknown code, a field outside its list, or a level that does not permit.
+    /// An operation that is mostly refused: an unknown code, a field outside its list, a code that a halted processor does not
+    /// take or that one which is not halted does not take, or a level that does not permit.
     fn mistaken(&mut self, seen: &Seen) -> Call {
-        let code = self.random.below(8);
+        let code = self.random.below(LAST_CODE + 1);
         let mut call = self.valid(code, seen);
-        match self.random.below(6) {
+        match self.random.below(9) {
             0 => call.0[0] = LAST_CODE + 1 + self.random.of_length(10),
             1 => call.0[0] = self.random.number(),
             2 | 3 => self.spoil_field(&mut call),
+            4 | 5 => {
+                let code = if seen.halted { self.random.one_of(&[1, 2, 3, 8]) } else { 9 };
+                call = self.of_code(code, seen);
+            }
             _ => {
                 // A level of its own choice, permitted or not.
                 let level = self.random.below(4);
-                call = match self.random.below(3) {
+                call = match self.random.below(4) {
+                    _ if seen.halted && self.random.percent(50) => Call([9, call.cycles(), 5, level, 0, 0]),
                     0 => Call([2, call.cycles(), self.random.one_of(&EXCEPTION_TYPES), level, 1, 2]),
                     1 => Call([3, call.cycles(), level, 0, 3, 4]),
+                    2 => Call([9, call.cycles(), 5, level, 0, 0]),
                     _ => Call([4, call.cycles(), self.platform(), 0, 0, 0]),
                 };
             }
@@ -274,6 +314,15 @@ impl<'r> Generator<'r> {
 
     fn return_level(&mut self, seen: &Seen) -> u64 {
         self.level_of(seen, 0, seen.level)
+    }
+
+    /// Any level, in some cases one that cannot be entered.
+    fn resume_level(&mut self, seen: &Seen) -> u64 {
+        if self.random.percent(10) {
+            self.random.below(4)
+        } else {
+            self.level_of(seen, 0, 3)
+        }
     }
 
     /// A level that can be entered, from the lowest to the highest.
@@ -392,28 +441,29 @@ pub fn unsound(random: &mut Random, reason: usize) -> Vec<u64> {
     state
 }
 
-/// Nine sound numbers and up to three past them.
+/// Ten sound numbers and up to three past them.
 fn sound_state(random: &mut Random) -> Vec<u64> {
     let flavour = random.one_of(&Flavour::ALL);
     let mut generator = Generator::midway(random, flavour);
     let platform = generator.platform();
     let (cr1, cr2) = (generator.control() & CONTROL_MASK, generator.control() & CONTROL_MASK);
     let fcr = generator.filter() & FILTER_MASK;
-    let level = generator.level_of(&Seen { level: 0, platform, count: 0 }, 0, 3);
+    let level = generator.level_of(&Seen { level: 0, platform, count: 0, halted: false }, 0, 3);
     let size = if random.percent(4) { 0 } else { random.one_of(&SIZES) };
     let count = match random.below(4) {
         0 => random.one_of(&[0, 255, 256, 511, 513, LIMIT - 1, LIMIT]),
         _ => random.of_length(20),
     };
-    let mut state = vec![level, size, random.below(2), platform, cr1, cr2, fcr, count, random.below(2)];
+    let halted = u64::from(random.percent(25));
+    let mut state = vec![level, size, random.below(2), platform, cr1, cr2, fcr, count, random.below(2), halted];
     state.extend((0..random.below(4)).map(|_| random.number()));
     state
 }
 
 /// Makes a state unsound for the reason of this number (the order of [`crate::shares`]).
 fn spoil(random: &mut Random, state: &mut Vec<u64>, reason: usize) {
-    if reason == 0 || state.len() < 9 {
-        state.truncate(random.below(9) as usize);
+    if reason == 0 || state.len() < State::NUMBERS {
+        state.truncate(random.below(State::NUMBERS as u64) as usize);
         return;
     }
     let outside = |random: &mut Random, mask: u64| loop {
@@ -440,7 +490,8 @@ fn spoil(random: &mut Random, state: &mut Vec<u64>, reason: usize) {
             state[3] |= 4 | (1 + random.below(3));
         }
         10 => state[7] = above(random, LIMIT),
-        _ => state[8] = above(random, 1),
+        11 => state[8] = above(random, 1),
+        _ => state[9] = above(random, 1),
     }
 }
 

@@ -10,6 +10,7 @@ pub mod call;
 pub mod demand3;
 pub mod engine;
 pub mod generate;
+mod halts;
 pub mod programs;
 pub mod random;
 pub mod recording;

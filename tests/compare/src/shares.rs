@@ -1,12 +1,12 @@
 //! Which outcomes were met, and how often: a generator that never records proves nothing.
 
 use crate::engine::Lent;
-use crate::{Call, Since};
+use crate::{halts, Call, Since};
 use model::{Cause, Document01, Rules, Shape};
 use std::fmt;
 
 /// What is counted, in groups.
-const GROUPS: [(&str, &[&str]); 5] = [
+const GROUPS: [(&str, &[&str]); 10] = [
     (
         "answers",
         &[
@@ -20,6 +20,7 @@ const GROUPS: [(&str, &[&str]); 5] = [
             "refused 5",
             "refused 6",
             "refused 7",
+            "refused 8",
         ],
     ),
     (
@@ -35,6 +36,10 @@ const GROUPS: [(&str, &[&str]); 5] = [
             "return half-source",
             "return half-target",
             "return none",
+            "halt half-source",
+            "halt none",
+            "resume half-target",
+            "resume none",
         ],
     ),
     ("records", &["known", "unknown", "exceeded"]),
@@ -53,16 +58,40 @@ const GROUPS: [(&str, &[&str]); 5] = [
             "level 1 with TGE and EL2 enabled",
             "count above 1,048,576",
             "unknown above 1",
+            "halted above 1",
         ],
     ),
     (
         "counts after BRB IALL",
         &["unknown by a performed one alone", "known after a trapped one", "known after an undefined one"],
     ),
+    ("halts at each level", &halts::AT_LEVELS),
+    ("resumes to each level", &halts::AT_LEVELS),
+    ("what 8 refuses", &halts::REFUSED_8),
+    ("while halted", &halts::WHILE_HALTED),
+    (
+        "counts and halts",
+        &["known of a halt", "unknown by a resume alone", "unknown by others halted alone", "known after a resume's"],
+    ),
 ];
 
+/// The groups by their places.
+const ANSWERS: usize = 0;
+const EVENTS: usize = 1;
+const RECORDS: usize = 2;
+const UNSOUND: usize = 3;
+const AFTER_IALL: usize = 4;
+const HALTS: usize = 5;
+const RESUMES: usize = 6;
+const REFUSED_8: usize = 7;
+const WHILE_HALTED: usize = 8;
+const COUNTS_AND_HALTS: usize = 9;
+
+/// A group has at most so many classes.
+const MOST: usize = 14;
+
 /// How many reasons there are for a state not to be sound.
-pub const REASONS: usize = GROUPS[3].1.len();
+pub const REASONS: usize = GROUPS[UNSOUND].1.len();
 
 /// Classes of a record's count, by their places in the group of records.
 pub const KNOWN: usize = 0;
@@ -72,39 +101,56 @@ const EXCEEDED: usize = 2;
 /// How often each outcome was met.
 #[derive(Clone, Debug, Default)]
 pub struct Shares {
-    met: [[u64; 12]; GROUPS.len()],
+    met: [[u64; MOST]; GROUPS.len()],
 }
 
 impl Shares {
-    /// Notes an answered operation: the answer, what an accepted event became, and the count of its record. Answers whether
-    /// there is one.
-    pub fn note(&mut self, before: &[u64], call: Call, number: u64, room: &[u64]) -> bool {
-        self.met[0][answer_class(number)] += 1;
-        if !call.is_event() || !matches!(number, 0) {
-            return false;
+    /// Notes an answered operation: the answer, what an accepted event became, and the count of its record. Answers the cause
+    /// of the record, if there is one.
+    pub fn note(&mut self, before: &[u64], call: Call, number: u64, room: &[u64]) -> Option<Cause> {
+        self.met[ANSWERS][answer_class(number)] += 1;
+        self.note_halts(before, call, number, room.len());
+        if !call.is_event() || number != 0 {
+            return None;
         }
-        let Some((cause, shape)) = event_of(before, room.len(), call) else { return false };
-        self.met[1][event_class(cause, shape)] += 1;
-        if shape.is_some() {
-            self.met[2][count_class(room[0])] += 1;
+        let (cause, shape) = event_of(before, room.len(), call)?;
+        self.met[EVENTS][event_class(cause, shape)] += 1;
+        shape.map(|_| {
+            self.met[RECORDS][count_class(room[0])] += 1;
+            cause
+        })
+    }
+
+    /// Notes what a halt has to do with an answered operation.
+    fn note_halts(&mut self, before: &[u64], call: Call, number: u64, room: usize) {
+        let Some(state) = Document01.sound(before).filter(|state| state.size != 0) else { return };
+        let accepted = (number == 0).then_some(call);
+        let met = [
+            (HALTS, accepted.and_then(|call| halts::of_halt(&state, call))),
+            (RESUMES, accepted.and_then(|call| halts::of_resume(&state, call))),
+            (WHILE_HALTED, halts::while_halted(&state, call, number)),
+        ];
+        let refused = halts::refused(&state, call, number, room).into_iter().map(|class| (REFUSED_8, Some(class)));
+        for (group, class) in met.into_iter().chain(refused) {
+            class.into_iter().for_each(|class| self.met[group][class] += 1);
         }
-        shape.is_some()
     }
 
     /// The same of a sequence's operation, with what came since the last record.
     pub fn note_in_sequence(&mut self, since: &mut Since, before: &[u64], call: Call, number: u64, lent: &Lent) {
         since.note(before, &lent.state, call, number);
-        if self.note(before, call, number, &lent.room) {
-            if let Some(class) = since.class(before, count_class(lent.room[0])) {
-                self.met[4][class] += 1;
-            }
-            *since = Since::default();
+        if let Some(cause) = self.note(before, call, number, &lent.room) {
+            let count = count_class(lent.room[0]);
+            let iall = since.class(before, count).map(|class| (AFTER_IALL, class));
+            let halts = since.halt_class(before, cause, count).map(|class| (COUNTS_AND_HALTS, class));
+            iall.into_iter().chain(halts).for_each(|(group, class)| self.met[group][class] += 1);
+            *since = Since::record(cause);
         }
     }
 
     /// Notes a state that is not sound, by its reason's number.
     pub fn note_unsound(&mut self, reason: usize) {
-        self.met[3][reason] += 1;
+        self.met[UNSOUND][reason] += 1;
     }
 
     /// The classes that were met fewer than `least` times. `except` names classes that cannot be met.
@@ -160,6 +206,8 @@ fn event_class(cause: Cause, shape: Option<Shape>) -> usize {
         Cause::Branch(_) => usize::from(shape.is_none()),
         Cause::Exception(_) => 2 + side,
         Cause::Return => 6 + side,
+        Cause::Halt => 10 + usize::from(shape.is_none()),
+        Cause::Resume => 12 + usize::from(shape.is_none()),
     }
 }
 
@@ -174,6 +222,6 @@ fn count_class(inf: u64) -> usize {
 /// An accepted event's cause, and its record's shape as document 01 has it.
 fn event_of(before: &[u64], room: usize, call: Call) -> Option<(Cause, Option<Shape>)> {
     let (state, operation) = Document01.accept(before, room, call.0).ok()?;
-    let event = operation.event(state.level)?;
+    let event = operation.event(Document01.begins(&state))?;
     Some((event.cause, Document01.shape(&state, &event)))
 }

@@ -43,8 +43,8 @@ impl Case for Single {
     fn simpler(&self) -> Box<dyn Iterator<Item = Self> + '_> {
         let narrower = [0, 24, 48, 96, 192].into_iter().filter(|&room| room < self.room.len());
         let narrower = narrower.map(|room| Single { room: self.room[..room].to_vec(), ..self.clone() });
-        let shorter =
-            (9..self.state.len()).map(|length| Single { state: self.state[..length].to_vec(), ..self.clone() });
+        let lengths = model::State::NUMBERS..self.state.len();
+        let shorter = lengths.map(|length| Single { state: self.state[..length].to_vec(), ..self.clone() });
         let emptied = self.room.iter().any(|&number| number != 0);
         let emptied = emptied.then(|| Single { room: vec![0; self.room.len()], ..self.clone() });
         let plainer = (0..6).rev().flat_map(move |field| {

@@ -24,8 +24,8 @@ fn sequences_from_a_fresh_state() {
     let seed = seed::of_test("sequences", seed::from_clock);
     let mut shares = Shares::default();
     match run::sequences(ENGINES, &mut Random::new(seed), SEQUENCE_OPERATIONS, &mut shares) {
-        // From a fresh state no state is ever unsound.
-        Ok(agreed) => report("sequences", agreed, &shares, &["refused 7", "unsound states"]),
+        // From a fresh state no state is ever unsound, and no room too short for it.
+        Ok(agreed) => report("sequences", agreed, &shares, &["refused 7", "unsound states", "where 6 would follow"]),
         Err(disagreement) => panic!("seed {seed}: {disagreement}"),
     }
 }
@@ -36,7 +36,7 @@ fn single_calls_on_any_state() {
     let mut shares = Shares::default();
     match run::singles(ENGINES, &mut Random::new(seed), SINGLE_CALLS, &mut shares) {
         // What came since the last record is a sequence's.
-        Ok(agreed) => report("single calls", agreed, &shares, &["counts after BRB IALL"]),
+        Ok(agreed) => report("single calls", agreed, &shares, &["counts after BRB IALL", "counts and halts"]),
         Err(disagreement) => panic!("seed {seed}: {disagreement}"),
     }
 }
@@ -45,11 +45,16 @@ fn single_calls_on_any_state() {
 fn demand_3_by_exact_bookkeeping() {
     let seed = seed::of_test("demand 3", seed::from_clock);
     match demand3::explore(&Library, &mut Random::new(seed), DEMAND_3_OPERATIONS) {
-        Ok(demand3::Kept { stretches, spread }) => {
+        Ok(demand3::Kept { stretches, spread, to_halts, from_resumes }) => {
             say(&format!("demand 3: {DEMAND_3_OPERATIONS} operations, {stretches} stretches of records kept it"));
             say(&format!("demand 3: the sums of {spread} of these stretches have two ends that differ"));
+            say(&format!("demand 3: {to_halts} end with a halt's record, {from_resumes} begin with a resume's"));
             let exact = stretches - spread;
             assert!(spread >= LEAST && exact >= LEAST, "only {spread} with two ends that differ, {exact} without");
+            assert!(
+                to_halts >= LEAST && from_resumes >= LEAST,
+                "only {to_halts} to halts, {from_resumes} from resumes"
+            );
         }
         Err((sequence, how)) => panic!("seed {seed}: demand 3 is broken: {how}\n  {sequence}"),
     }

@@ -4,7 +4,7 @@
 use compare::engine::Lent;
 use compare::seed::say;
 use compare::{Engine, Library, Modelled, Sequence};
-use model::{own_fields, Batches, Document01};
+use model::{own_fields, Batches, Document01, LAST_CODE};
 
 const MALFORMED: u64 = 1;
 const UNKNOWN_CODE: u64 = 2;
@@ -61,12 +61,12 @@ fn case(code: u64, place: usize, edge: &[u8], number: Option<u64>, behind: bool)
 /// Each code, each of its numbers and each edge. A code that is another code is no case, since it has fields of its own.
 fn cases() -> Vec<Case> {
     let mut cases = Vec::new();
-    for code in 0..8 {
+    for code in 0..=LAST_CODE {
         let own = 2 + own_fields(code).expect("a known code");
         for place in 0..own {
             let whole = WHOLE
                 .iter()
-                .filter(|(_, number)| place > 0 || number.is_none_or(|number| number > 7 || number == code));
+                .filter(|(_, number)| place > 0 || number.is_none_or(|number| number > LAST_CODE || number == code));
             cases.extend(whole.map(|&(edge, number)| case(code, place, edge, number, true)));
             cases.extend(CUT.iter().map(|edge| case(code, place, edge, None, false)));
         }

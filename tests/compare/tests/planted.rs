@@ -4,8 +4,8 @@
 use compare::seed::{self, say};
 use compare::{demand3, run, Engine, Library, Modelled, Random, Shares};
 use model::{
-    count, room, Access, Answer, BranchType, Document01, Event, Level, Operation, Outcome, Platform, Record,
-    Recordings, Refusal, Register, Rules, Shape, State,
+    count, room, Access, Answer, BranchType, Cause, Document01, Event, Level, Operation, Outcome, Platform, Record,
+    Recordings, Refusal, Register, Rules, Shape, Side, State,
 };
 
 /// How many operations of each kind an error may hide from.
@@ -44,6 +44,15 @@ fn refused_first(
     }
 }
 
+/// Whether 8 refuses an operation of this code, whatever its fields are.
+fn halted_wrongly(state: &State, code: u64) -> bool {
+    match code {
+        1..=3 | 8 => state.halted,
+        9 => !state.halted,
+        _ => false,
+    }
+}
+
 planted! {
     ("EnI read as \"nothing unless chosen\"", NothingUnlessChosen {
         fn chosen(&self, fcr: u64, kind: BranchType) -> bool {
@@ -66,7 +75,7 @@ planted! {
         }
     })
     ("an exception's control is taken from the level left", ControlFromLevelLeft {
-        fn exception_control(&self, event: &Event) -> Level {
+        fn exception_control(&self, event: &Event) -> Side {
             event.from
         }
     })
@@ -76,7 +85,7 @@ planted! {
         }
     })
     ("a return's control is taken from the target level", ReturnControlFromTarget {
-        fn return_control(&self, event: &Event) -> Level {
+        fn return_control(&self, event: &Event) -> Side {
             event.to
         }
     })
@@ -103,7 +112,7 @@ planted! {
     ("refusals 3 and 4 are swapped", Swapped34 {
         fn accept(&self, state: &[u64], room: usize, numbers: [u64; 6]) -> Result<(State, Operation), Refusal> {
             let [code, _, fields @ ..] = numbers;
-            let outside = code <= 7 && Document01.operation(code, fields).is_none();
+            let outside = code <= 9 && Document01.operation(code, fields).is_none();
             refused_first(state, room, numbers, |_| outside.then_some(Refusal::OutsideList))
         }
     })
@@ -133,7 +142,7 @@ planted! {
     })
     ("refusals 7 and 2 are swapped", Swapped72 {
         fn accept(&self, state: &[u64], room: usize, numbers: [u64; 6]) -> Result<(State, Operation), Refusal> {
-            if numbers[0] > 7 {
+            if numbers[0] > 9 {
                 return Err(Refusal::UnknownCode);
             }
             Document01.accept(state, room, numbers)
@@ -403,6 +412,210 @@ planted! {
             Document01.kept(register, value) | more
         }
     })
+    ("a halt's record has the level", HaltLevel {
+        fn shown_level(&self, event: &Event, shape: Shape) -> u64 {
+            match event.cause {
+                Cause::Halt => event.from.number(),
+                _ => Document01.shown_level(event, shape),
+            }
+        }
+    })
+    ("a resume's record has the level of the halt", ResumeLevel {
+        fn record(&self, state: &State, event: &Event, shape: Shape) -> Record {
+            let left = Event { to: Side::Level(state.level), ..*event };
+            Document01.record(state, if event.cause == Cause::Resume { &left } else { event }, shape)
+        }
+    })
+    ("a resume leaves the level of the halt", LevelKept {
+        fn enter(&self, state: &mut State, side: Side) {
+            let (level, halted) = (state.level, state.halted);
+            Document01.enter(state, side);
+            if halted {
+                state.level = level;
+            }
+        }
+    })
+    ("what began halted is no occasion", HaltedNoOccasion {
+        fn began_prohibited(&self, state: &State) -> bool {
+            Document01.prohibited(state, state.level)
+        }
+    })
+    ("a resume is no occasion", ResumeNoOccasion {
+        fn perform(&self, state: &mut State, room: &mut [u64], operation: Operation, cycles: u64) -> Answer {
+            match operation.event(self.begins(state)) {
+                Some(event) if event.cause == Cause::Resume => {
+                    state.count_on(cycles);
+                    self.happen(state, room, event);
+                    Answer::Done
+                }
+                _ => Document01.perform(state, room, operation, cycles),
+            }
+        }
+    })
+    ("a halt is an occasion", HaltOccasion {
+        fn perform(&self, state: &mut State, room: &mut [u64], operation: Operation, cycles: u64) -> Answer {
+            state.unknown |= matches!(operation, Operation::Halt { .. });
+            Document01.perform(state, room, operation, cycles)
+        }
+    })
+    ("a resume's record leaves the next count unknown", UnknownAfterResume {
+        fn happen(&self, state: &mut State, room: &mut [u64], event: Event) {
+            Document01.happen(state, room, event);
+            state.unknown |= event.cause == Cause::Resume;
+        }
+    })
+    ("refusal 8 comes before 4", Swapped84 {
+        fn accept(&self, state: &[u64], room: usize, numbers: [u64; 6]) -> Result<(State, Operation), Refusal> {
+            refused_first(state, room, numbers, |s| {
+                (s.size != 0 && halted_wrongly(s, numbers[0])).then_some(Refusal::Halted)
+            })
+        }
+    })
+    ("refusal 8 comes after 5", Swapped85 {
+        fn accept(&self, state: &[u64], room: usize, numbers: [u64; 6]) -> Result<(State, Operation), Refusal> {
+            let accepted = Document01.accept(state, room, numbers);
+            let [code, _, fields @ ..] = numbers;
+            match (accepted, Document01.sound(state), Document01.operation(code, fields)) {
+                (Err(Refusal::Halted), Some(state), Some(operation)) if !Document01.permits(&state, &operation) => {
+                    Err(Refusal::NotPermitted)
+                }
+                (accepted, ..) => accepted,
+            }
+        }
+    })
+    ("refusal 8 comes after 6", Swapped86 {
+        fn accept(&self, state: &[u64], room: usize, numbers: [u64; 6]) -> Result<(State, Operation), Refusal> {
+            match Document01.accept(state, room, numbers) {
+                Err(Refusal::Halted) if room < 3 * state[1] as usize => Err(Refusal::RoomTooShort),
+                other => other,
+            }
+        }
+    })
+    ("a second halt is accepted", SecondHalt {
+        fn wrongly_halted(&self, state: &State, operation: &Operation) -> bool {
+            !matches!(operation, Operation::Halt { .. }) && Document01.wrongly_halted(state, operation)
+        }
+    })
+    ("a resume is accepted where nothing is halted", ResumeAtOnce {
+        fn wrongly_halted(&self, state: &State, operation: &Operation) -> bool {
+            !matches!(operation, Operation::Resume { .. }) && Document01.wrongly_halted(state, operation)
+        }
+    })
+    ("a platform word is refused while halted", PlatformWhileHalted {
+        fn wrongly_halted(&self, state: &State, operation: &Operation) -> bool {
+            state.halted && matches!(operation, Operation::Platform(_)) || Document01.wrongly_halted(state, operation)
+        }
+    })
+    ("accesses are refused while halted", AccessWhileHalted {
+        fn wrongly_halted(&self, state: &State, operation: &Operation) -> bool {
+            let access = matches!(operation, Operation::Read(_) | Operation::Write(..) | Operation::InvalidateAll);
+            state.halted && access || Document01.wrongly_halted(state, operation)
+        }
+    })
+    ("accesses while halted are those of EL3", AccessAtEl3 {
+        fn outcome(&self, state: &State, access: Access) -> Outcome {
+            let level = if state.halted { Level::EL3 } else { state.level };
+            Document01.outcome(&State { level, ..*state }, access)
+        }
+    })
+    ("the filter is applied to halts and resumes", FilteredHalts {
+        fn debug_wanted(&self, state: &State, _: &Event) -> bool {
+            self.chosen(state.fcr, BranchType::Direct)
+        }
+    })
+    ("the control of exceptions is asked of halts", ControlledHalts {
+        fn debug_wanted(&self, state: &State, event: &Event) -> bool {
+            event.cause != Cause::Halt || self.controlled(state, event.from, 23)
+        }
+    })
+    ("the control of returns is asked of resumes", ControlledResumes {
+        fn debug_wanted(&self, state: &State, event: &Event) -> bool {
+            event.cause != Cause::Resume || self.controlled(state, event.to, 22)
+        }
+    })
+    ("PAUSED does not stop a halt's record", PausedHalt {
+        fn shape(&self, state: &State, event: &Event) -> Option<Shape> {
+            let halt = event.cause == Cause::Halt;
+            let running = State { fcr: if halt { state.fcr & !0x80 } else { state.fcr }, ..*state };
+            Document01.shape(&running, event)
+        }
+    })
+    ("a resume that goes up is refused", ResumeUpRefused {
+        fn permits(&self, state: &State, operation: &Operation) -> bool {
+            let up = matches!(operation, Operation::Resume { to, .. } if *to > state.level);
+            !up && Document01.permits(state, operation)
+        }
+    })
+    ("a resume to a level that is not there is accepted", ResumeAnywhere {
+        fn permits(&self, state: &State, operation: &Operation) -> bool {
+            matches!(operation, Operation::Resume { .. }) || Document01.permits(state, operation)
+        }
+    })
+    ("a reset does not end a halt", HaltedAfterReset {
+        fn reset(&self, state: &mut State, room: &mut [u64], size: usize, v1p1: bool) {
+            let halted = state.halted;
+            Document01.reset(state, room, size, v1p1);
+            state.halted = halted;
+        }
+    })
+    ("a halt puts the level to 3", HaltAtEl3 {
+        fn enter(&self, state: &mut State, side: Side) {
+            Document01.enter(state, side);
+            if side == Side::DebugState {
+                state.level = Level::EL3;
+            }
+        }
+    })
+    ("the halted flag is not checked", HaltedFlagUnchecked {
+        fn sound(&self, numbers: &[u64]) -> Option<State> {
+            let mut numbers = numbers.to_vec();
+            if let Some(halted) = numbers.get_mut(9) {
+                *halted = (*halted).min(1);
+            }
+            Document01.sound(&numbers)
+        }
+    })
+    ("a state of nine numbers is enough", NineNumbers {
+        fn step(&self, state: &mut [u64], room: &mut [u64], numbers: [u64; 6]) -> Answer {
+            if state.len() != 9 {
+                return Document01.step(state, room, numbers);
+            }
+            let mut ten = [&state[..], &[0]].concat();
+            let answer = Document01.step(&mut ten, room, numbers);
+            state.copy_from_slice(&ten[..9]);
+            answer
+        }
+    })
+    ("a halt's cycles do not count", HaltCyclesLost {
+        fn perform(&self, state: &mut State, room: &mut [u64], operation: Operation, cycles: u64) -> Answer {
+            let halt = matches!(operation, Operation::Halt { .. });
+            Document01.perform(state, room, operation, if halt { 0 } else { cycles })
+        }
+    })
+    ("the count stands still while halted and stays known", StillWhileHalted {
+        fn pass(&self, state: &mut State, cycles: u64) {
+            if !state.halted {
+                Document01.pass(state, cycles);
+            }
+        }
+    })
+    ("the last code is still 7", LastCode7 {
+        fn last_code(&self) -> u64 {
+            7
+        }
+    })
+    ("the types of a halt and a resume are swapped", TypesSwapped {
+        fn record(&self, state: &State, event: &Event, shape: Shape) -> Record {
+            let [inf, source, target] = Document01.record(state, event, shape);
+            let swapped = matches!(event.cause, Cause::Halt | Cause::Resume);
+            [if swapped { inf ^ (0x21 ^ 0x39) << 8 } else { inf }, source, target]
+        }
+    })
+    ("a resume's fields are swapped", ResumeFieldsSwapped {
+        fn operation(&self, code: u64, [a, b, c, d]: [u64; 4]) -> Option<Operation> {
+            Document01.operation(code, if code == 9 { [b, a, c, d] } else { [a, b, c, d] })
+        }
+    })
 }
 
 /// The oldest record of a full buffer is kept.
@@ -462,7 +675,7 @@ fn an_error_in_a_full_buffer_is_found() {
 #[test]
 fn demand_3_fails_where_counts_are_wrong() {
     let seed = seed::of_test("planted errors of demand 3", || SEED);
-    let wrong: [(&str, &dyn Engine); 7] = [
+    let wrong: [(&str, &dyn Engine); 9] = [
         ("counts are rounded to nearest", &Modelled(RoundedToNearest)),
         ("a refused operation's cycles count", &Modelled(RefusedCyclesCount)),
         ("accesses that are not performed pass no cycles", &Modelled(NotPerformedNoCycles)),
@@ -470,6 +683,8 @@ fn demand_3_fails_where_counts_are_wrong() {
         ("the running count wraps at 2^64", &Modelled(Wraps)),
         ("an exceeded count is shown as the largest", &Modelled(ExceededAsLargest)),
         ("a count with E 1 loses its last bit", &Modelled(LastBitLost)),
+        ("a halt's cycles do not count", &Modelled(HaltCyclesLost)),
+        ("the count stands still while halted and stays known", &Modelled(StillWhileHalted)),
     ];
     let mut missed = Vec::new();
     for (words, engine) in wrong {

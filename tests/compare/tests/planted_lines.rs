@@ -86,6 +86,39 @@ planted! {
             swapped(6, [0, 1], code, fields)
         }
     })
+    ("a resume's target and level are swapped", ResumeSwapped: Lines {
+        fn fields(&self, code: u64, fields: [u64; 4]) -> Vec<Field> {
+            swapped(9, [0, 1], code, fields)
+        }
+    })
+    ("a resume's level comes before its target", ResumeLevelFirst: Lines {
+        fn fields(&self, code: u64, fields: [u64; 4]) -> Vec<Field> {
+            let mut own = Document01.fields(code, fields);
+            if code == 9 {
+                own.swap(0, 1);
+            }
+            own
+        }
+    })
+    ("a halt's source is shown as its target", HaltTarget: Lines {
+        fn fields(&self, code: u64, fields: [u64; 4]) -> Vec<Field> {
+            let mut own = Document01.fields(code, fields);
+            if code == 8 {
+                own[0].0 = "target";
+            }
+            own
+        }
+    })
+    ("a halt's source is in decimal", HaltDecimal: Lines {
+        fn fields(&self, code: u64, fields: [u64; 4]) -> Vec<Field> {
+            shown(8, 0, self.decimal(fields[0]), code, fields)
+        }
+    })
+    ("a resume's level is in hexadecimal", ResumeLevelHexadecimal: Lines {
+        fn fields(&self, code: u64, fields: [u64; 4]) -> Vec<Field> {
+            shown(9, 1, self.hexadecimal(fields[1]), code, fields)
+        }
+    })
     ("a read shows a value", ReadValue: Lines {
         fn fields(&self, code: u64, fields: [u64; 4]) -> Vec<Field> {
             Document01.fields(if code == 5 { 6 } else { code }, fields)
@@ -123,6 +156,11 @@ planted! {
     ("exception and return have each other's word", WordsSwapped: Lines {
         fn word(&self, code: u64) -> &'static str {
             Document01.word(if matches!(code, 2 | 3) { 5 - code } else { code })
+        }
+    })
+    ("halt and resume have each other's word", HaltWordsSwapped: Lines {
+        fn word(&self, code: u64) -> &'static str {
+            Document01.word(if matches!(code, 8 | 9) { 17 - code } else { code })
         }
     })
     ("decimal numbers from 2^63 on are negative", Negative: Lines {
@@ -322,6 +360,11 @@ planted! {
             }
             let listing = Document01.list(&bytes[..end], form);
             Listing { bad: listing.bad.or((end < bytes.len()).then_some(end)), ..listing }
+        }
+    })
+    ("the last code is still 7", LastCode7: Recordings {
+        fn fields_read(&self, code: u64) -> Option<usize> {
+            model::own_fields(code).filter(|_| code <= 7)
         }
     })
     ("the byte is that of the operation", ByteOfOperation: Recordings {

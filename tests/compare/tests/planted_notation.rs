@@ -7,7 +7,7 @@ use compare::programs::{edges, wrong, Packed, Program, Way};
 use compare::seed;
 use compare::Random;
 use model::notation::{Notation, Packed as Result01};
-use model::{own_fields, Document01, Recordings, Rules};
+use model::{own_fields, Document01, Recordings, Rules, LAST_CODE};
 
 /// These tests are about the comparison itself: they repeat unless told otherwise.
 const SEED: u64 = 1;
@@ -279,22 +279,45 @@ planted! {
     })
     ("missing cycles are 0", MissingCycles {
         fn is_whole(&self, code: u64, numbers: usize) -> bool {
-            Document01.is_whole(code, numbers) || numbers == 1 && code <= 7
+            Document01.is_whole(code, numbers) || numbers == 1 && code <= LAST_CODE
         }
     })
     ("an unknown code is packed", UnknownCode {
         fn is_whole(&self, code: u64, numbers: usize) -> bool {
-            code > 7 || Document01.is_whole(code, numbers)
+            code > LAST_CODE || Document01.is_whole(code, numbers)
         }
     })
-    ("a code is taken modulo 8", CodeModulo {
+    ("a code is taken modulo 16", CodeModulo {
         fn is_whole(&self, code: u64, numbers: usize) -> bool {
-            Document01.is_whole(code % 8, numbers)
+            Document01.is_whole(code % 16, numbers)
         }
         fn bytes_of(&self, numbers: &[u64]) -> Vec<u8> {
             let mut known = numbers.to_vec();
-            known[0] %= 8;
+            known[0] %= 16;
             Document01.bytes_of(&known)
+        }
+    })
+    ("the last code is still 7", LastCode7 {
+        fn is_whole(&self, code: u64, numbers: usize) -> bool {
+            code <= 7 && Document01.is_whole(code, numbers)
+        }
+    })
+    ("a resume's target and level are swapped", ResumeSwapped {
+        fn bytes_of(&self, numbers: &[u64]) -> Vec<u8> {
+            match numbers {
+                [9, cycles, target, level] => Document01.bytes_of(&[9, *cycles, *level, *target]),
+                _ => Document01.bytes_of(numbers),
+            }
+        }
+    })
+    ("a resume without its level is packed", ResumeWithoutLevel {
+        fn is_whole(&self, code: u64, numbers: usize) -> bool {
+            (code, numbers) == (9, 3) || Document01.is_whole(code, numbers)
+        }
+    })
+    ("a halt has a target", HaltWithTarget {
+        fn is_whole(&self, code: u64, numbers: usize) -> bool {
+            (code, numbers) == (8, 4) || Document01.is_whole(code, numbers)
         }
     })
     ("a code above 255 is taken by its lowest byte", CodeByte {

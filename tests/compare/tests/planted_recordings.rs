@@ -110,6 +110,36 @@ planted! {
             bytes
         }
     })
+    ("the reader's last code is still 7", ReaderLastCode7 {
+        fn fields_read(&self, code: u64) -> Option<usize> {
+            model::own_fields(code).filter(|_| code <= 7)
+        }
+    })
+    ("the reader takes a code 10", ReaderCode10 {
+        fn fields_read(&self, code: u64) -> Option<usize> {
+            if code == 10 { Some(0) } else { model::own_fields(code) }
+        }
+    })
+    ("a resume is read without its level", ResumeWithoutLevel {
+        fn fields_read(&self, code: u64) -> Option<usize> {
+            if code == 9 { Some(1) } else { model::own_fields(code) }
+        }
+    })
+    ("a halt is read with a target", HaltWithTarget {
+        fn fields_read(&self, code: u64) -> Option<usize> {
+            if code == 8 { Some(2) } else { model::own_fields(code) }
+        }
+    })
+    ("the writer's last code is still 7", WriterLastCode7 {
+        fn fields_written(&self, code: u64) -> Option<usize> {
+            model::own_fields(code).filter(|_| code <= 7)
+        }
+    })
+    ("the writer takes a code 10", WriterCode10 {
+        fn fields_written(&self, code: u64) -> Option<usize> {
+            if code == 10 { Some(0) } else { model::own_fields(code) }
+        }
+    })
     ("an unknown code is judged after its cycles", CodeAfterCycles {
         fn read_operation(&self, bytes: &[u8], at: usize) -> Result<([u64; 6], usize), Stop> {
             let read = Document01.read_operation(bytes, at);
@@ -126,7 +156,7 @@ planted! {
     ("an unknown code is 2 in any form", CodeInAnyForm {
         fn read_operation(&self, bytes: &[u8], at: usize) -> Result<([u64; 6], usize), Stop> {
             match (Document01.read_operation(bytes, at), NotShortest.read_number(bytes, at)) {
-                (Err(stop), Some((8.., _))) => Err(Stop { refusal: Refusal::UnknownCode, ..stop }),
+                (Err(stop), Some((10.., _))) => Err(Stop { refusal: Refusal::UnknownCode, ..stop }),
                 (read, _) => read,
             }
         }
@@ -241,7 +271,7 @@ planted! {
     })
     ("the writer needs room for the longest operation", RoomForLongest {
         fn write_operation(&self, room: &mut [u8], at: usize, numbers: [u64; 6]) -> Result<usize, Refusal> {
-            let short = numbers[0] <= 7 && room.len().saturating_sub(at) < 60;
+            let short = numbers[0] <= 9 && room.len().saturating_sub(at) < 60;
             if short { Err(Refusal::RoomTooShort) } else { Document01.write_operation(room, at, numbers) }
         }
     })
@@ -260,7 +290,7 @@ planted! {
     ("the writer checks the fields", FieldsChecked {
         fn write_operation(&self, room: &mut [u8], at: usize, numbers: [u64; 6]) -> Result<usize, Refusal> {
             let [code, _, fields @ ..] = numbers;
-            let outside = code <= 7 && Document01.operation(code, fields).is_none();
+            let outside = code <= 9 && Document01.operation(code, fields).is_none();
             if outside { Err(Refusal::OutsideList) } else { Document01.write_operation(room, at, numbers) }
         }
     })

@@ -8,6 +8,8 @@ pub enum Refusal {
     NotPermitted = 5,
     RoomTooShort = 6,
     NotSound = 7,
+    /// Document 02, Five: the processor is halted, or it is not, and the operation asks for the other.
+    Halted = 8,
     /// Of a sum of counts alone (`docs/MANUAL.md`, "The spread of a count").
     SumTooLarge = 9,
 }

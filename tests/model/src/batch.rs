@@ -120,7 +120,7 @@ mod tests {
             assert_eq!(lent.answers[..16], [0; 16]);
             assert_eq!(lent.answers[16..24], S1_READS);
             assert!(lent.answers[24..].iter().all(|&number| number == BEFORE), "{numbers} numbers");
-            assert_eq!(lent.state, [1, 8, 0, 49, 10, 8, 65536, 0, 0]);
+            assert_eq!(lent.state, [1, 8, 0, 49, 10, 8, 65536, 0, 0, 0]);
             assert_eq!(lent.room[..2], [0x0000_012C_0000_0843, 0x1010]);
         }
         for numbers in [23, 22, 0] {
@@ -141,7 +141,7 @@ mod tests {
 
     #[test]
     fn an_unknown_code_is_the_last_that_is_answered() {
-        let run = bytes("0 0 8 0 / 8 / 5 0 0");
+        let run = bytes("0 0 8 0 / 10 / 5 0 0");
         let mut lent = Lent::fresh(24, 6);
         assert_eq!(lent.batch(&run), Ok(2));
         assert_eq!(lent.answers, [0, 0, 2, 0, BEFORE, BEFORE]);
@@ -160,20 +160,21 @@ mod tests {
 
     #[test]
     fn soundness_is_judged_first() {
-        for run in ["", "0 0 8 0", "8", "0 0 8 0 / 8"] {
+        for run in ["", "0 0 8 0", "10", "0 0 8 0 / 10"] {
             let mut lent = Lent::fresh(24, 0);
             lent.state[0] = 4;
             lent.refused(&bytes(run), Refusal::NotSound);
-            lent.state.truncate(8);
+            lent.state.truncate(State::NUMBERS - 1);
+            lent.state.fill(0);
             lent.refused(&bytes(run), Refusal::NotSound);
         }
     }
 
     #[test]
     fn a_refused_operation_is_answered_and_the_batch_goes_on() {
-        let run = bytes("7 0 / 0 0 9 0 / 0 0 16 0 / 0 0 8 0 / 2 0 34 0 0 0 / 5 0 0");
-        let mut lent = Lent::fresh(24, 12);
-        assert_eq!(lent.batch(&run), Ok(6));
-        assert_eq!(lent.answers, [3, 0, 4, 0, 6, 0, 0, 0, 5, 0, 0, 0x5008]);
+        let run = bytes("7 0 / 0 0 9 0 / 0 0 16 0 / 0 0 8 0 / 9 0 4 3 / 2 0 34 0 0 0 / 5 0 0");
+        let mut lent = Lent::fresh(24, 14);
+        assert_eq!(lent.batch(&run), Ok(7));
+        assert_eq!(lent.answers, [3, 0, 4, 0, 6, 0, 0, 0, 8, 0, 5, 0, 0, 0x5008]);
     }
 }

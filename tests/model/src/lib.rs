@@ -38,7 +38,7 @@ pub use access::{Access, Outcome};
 pub use answer::{Answer, Refusal};
 pub use batch::Batches;
 pub use count::Counts;
-pub use event::{Cause, Event, Record, Shape};
+pub use event::{Cause, Event, Record, Shape, Side};
 pub use level::Level;
 pub use lines::Lines;
 pub use notation::Notation;

@@ -64,7 +64,8 @@ pub trait Lines: Recordings {
 
     /// The word that a line begins with.
     fn word(&self, code: u64) -> &'static str {
-        ["reset", "branch", "exception", "return", "platform", "read", "write", "iall"][code as usize]
+        let words = ["reset", "branch", "exception", "return", "platform", "read", "write", "iall", "halt", "resume"];
+        words[code as usize]
     }
 
     /// The table of lines.
@@ -78,6 +79,8 @@ pub trait Lines: Recordings {
             4 => return vec![("P", self.platform(a))],
             5 => return vec![("register", self.register(a))],
             6 => return vec![("register", self.register(a)), ("value", self.value(b))],
+            8 => return vec![("source", self.hexadecimal(a))],
+            9 => return vec![("target", self.hexadecimal(a)), ("target_level", self.decimal(b))],
             _ => return vec![],
         };
         own.into_iter().chain(addresses).collect()
@@ -169,6 +172,8 @@ mod tests {
         check([5, 0, 32, 0, 0, 0], "read cycles=0 register=BRBINF0");
         check([6, 0, 1, 10, 0, 0], "write cycles=0 register=BRBCR_EL1 value=0xa");
         check([7, 0, 0, 0, 0, 0], "iall cycles=0");
+        check([8, 100, 0x1004, 0, 0, 0], "halt cycles=100 source=0x1004");
+        check([9, 5000, 0x1008, 1, 0, 0], "resume cycles=5000 target=0x1008 target_level=1");
     }
 
     #[test]
@@ -194,7 +199,8 @@ mod tests {
         assert_eq!(Document01.list(&[], Form::Readable), listing("", None));
         assert_eq!(Document01.list(&[7, 0, 5, 0, 1], Form::Numbers), listing("7 0\n5 0 1\n", None));
         assert_eq!(Document01.list(&[7, 0, 5, 0, 0x80, 0x00], Form::Readable), listing("iall cycles=0\n", Some(4)));
-        assert_eq!(Document01.list(&[7, 0, 8, 0], Form::Numbers), listing("7 0\n", Some(2)), "an unknown code");
+        assert_eq!(Document01.list(&[7, 0, 10, 0], Form::Numbers), listing("7 0\n", Some(2)), "an unknown code");
+        assert_eq!(Document01.list(&[8, 0, 1, 9, 0], Form::Numbers), listing("8 0 1\n", Some(5)), "a resume cut off");
         assert_eq!(Document01.list(&[7, 0, 5], Form::Numbers), listing("7 0\n", Some(3)), "missing");
     }
 }

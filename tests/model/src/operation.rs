@@ -1,13 +1,13 @@
-//! Document 01, "Operations": the codes, their fields and the registers.
+//! Document 01, "Operations", and document 02, Five: the codes, their fields and the registers.
 
-use crate::{Cause, Event, Level, Platform};
+use crate::{Cause, Event, Level, Platform, Side};
 
 /// Refusal 2 begins above this code.
-pub const LAST_CODE: u64 = 7;
+pub const LAST_CODE: u64 = 9;
 
 /// How many fields an operation has, its code and cycles not counted.
 pub fn own_fields(code: u64) -> Option<usize> {
-    [2, 4, 4, 4, 1, 1, 2, 0].get(usize::try_from(code).ok()?).copied()
+    [2, 4, 4, 4, 1, 1, 2, 0, 1, 2].get(usize::try_from(code).ok()?).copied()
 }
 
 /// An operation whose fields are all inside their lists. Its cycles stand beside it.
@@ -21,21 +21,33 @@ pub enum Operation {
     Read(Register),
     Write(Register, u64),
     InvalidateAll,
+    Halt { source: u64 },
+    Resume { target: u64, to: Level },
 }
 
 impl Operation {
-    /// The event that this operation is at a level. "A branch stays there; 2 and 3 move to the target level."
+    /// The event that this operation is where it begins. "A branch stays there; 2 and 3 move to the target level"; a halt
+    /// leads to Debug state and a resume from there to a level.
     #[inline]
-    pub fn event(self, from: Level) -> Option<Event> {
+    pub fn event(self, from: Side) -> Option<Event> {
         match self {
             Operation::Branch { kind, mispredicted, source, target } => {
                 Some(Event { cause: Cause::Branch(kind), from, to: from, mispredicted, source, target })
             }
             Operation::Exception { kind, to, source, target } => {
-                Some(Event { cause: Cause::Exception(kind), from, to, mispredicted: false, source, target })
+                let (cause, to) = (Cause::Exception(kind), Side::Level(to));
+                Some(Event { cause, from, to, mispredicted: false, source, target })
             }
             Operation::Return { to, mispredicted, source, target } => {
-                Some(Event { cause: Cause::Return, from, to, mispredicted, source, target })
+                Some(Event { cause: Cause::Return, from, to: Side::Level(to), mispredicted, source, target })
+            }
+            Operation::Halt { source } => {
+                let to = Side::DebugState;
+                Some(Event { cause: Cause::Halt, from, to, mispredicted: false, source, target: 0 })
+            }
+            Operation::Resume { target, to } => {
+                let to = Side::Level(to);
+                Some(Event { cause: Cause::Resume, from, to, mispredicted: false, source: 0, target })
             }
             _ => None,
         }

@@ -56,7 +56,8 @@ mod tests {
     fn goes_on_after_3_to_6_and_stops_after_1_and_2() {
         assert_eq!(lines(&bytes("7 0 / 0 0 9 0 / 0 0 8 0 / 5 0 0")), ["refused 3", "refused 4", "0000000000005008"]);
         assert_eq!(lines(&bytes("0 0 8 0 / 2 0 34 0 0 0 / 5 0 1")), ["refused 5", "0000000000000000"]);
-        assert_eq!(lines(&bytes("8 / 0 0 8 0 / 5 0 0")), ["refused 2"]);
+        assert_eq!(lines(&bytes("0 0 8 0 / 9 0 4 3 / 5 0 1")), ["refused 8", "0000000000000000"]);
+        assert_eq!(lines(&bytes("10 / 0 0 8 0 / 5 0 0")), ["refused 2"]);
         assert_eq!(lines(&[5, 0, 0x80, 0x00, 5, 0, 0]), ["refused 1"]);
         assert_eq!(lines(&[5]), ["refused 1"]);
         assert_eq!(lines(&[]), [""; 0]);

@@ -3,7 +3,7 @@
 
 use crate::{
     bit, buffer_size, count, exception_type, flag, room, Access, Answer, BranchType, Cause, Event, Level, Operation,
-    Outcome, Platform, Record, Refusal, Register, Shape, State, CONTROL_MASK, FILTER_MASK, LAST_CODE,
+    Outcome, Platform, Record, Refusal, Register, Shape, Side, State, CONTROL_MASK, FILTER_MASK, LAST_CODE,
 };
 
 /// Document 01 as it stands, with the requests of document 02 that have landed.
@@ -40,8 +40,12 @@ pub trait Rules {
                 self.reset(state, room, size, v1p1);
                 Answer::Done
             }
-            Operation::Branch { .. } | Operation::Exception { .. } | Operation::Return { .. } => {
-                if let Some(event) = operation.event(state.level) {
+            Operation::Branch { .. }
+            | Operation::Exception { .. }
+            | Operation::Return { .. }
+            | Operation::Halt { .. }
+            | Operation::Resume { .. } => {
+                if let Some(event) = operation.event(self.begins(state)) {
                     self.happen(state, room, event);
                 }
                 Answer::Done
@@ -69,7 +73,7 @@ pub trait Rules {
     }
 
     /// "Level 3; P, all registers and the running count 0, the reset's own cycles dropped; every record zero; size and
-    /// v1p1 from its fields." No record was made since: the next count is unknown.
+    /// v1p1 from its fields." No record was made since: the next count is unknown. "A reset ends a halt" (document 02, Five).
     fn reset(&self, state: &mut State, room: &mut [u64], size: usize, v1p1: bool) {
         *state = State {
             level: Level::EL3,
@@ -81,23 +85,27 @@ pub trait Rules {
             fcr: 0,
             count: 0,
             unknown: true,
+            halted: false,
         };
         room::clear(room, size);
     }
 
     // ---------------------------------------------------------------------------------------------------------------
-    // Refusal numbers, in order of checking: 7, 2, 3, 4, 5, 6
+    // Refusal numbers, in order of checking: 7, 2, 3, 4, 8, 5, 6
 
     fn accept(&self, state: &[u64], room_numbers: usize, numbers: [u64; 6]) -> Result<(State, Operation), Refusal> {
         let [code, _, fields @ ..] = numbers;
         let state = self.sound(state).ok_or(Refusal::NotSound)?;
-        if code > LAST_CODE {
+        if code > self.last_code() {
             return Err(Refusal::UnknownCode);
         }
         if state.size == 0 && code != 0 {
             return Err(Refusal::NotReset);
         }
         let operation = self.operation(code, fields).ok_or(Refusal::OutsideList)?;
+        if self.wrongly_halted(&state, &operation) {
+            return Err(Refusal::Halted);
+        }
         if !self.permits(&state, &operation) {
             return Err(Refusal::NotPermitted);
         }
@@ -107,9 +115,14 @@ pub trait Rules {
         Ok((state, operation))
     }
 
+    /// 2: a code above this one is unknown.
+    fn last_code(&self) -> u64 {
+        LAST_CODE
+    }
+
     /// 7: the state in these numbers, none where it is not sound.
     fn sound(&self, numbers: &[u64]) -> Option<State> {
-        let &[level, size, v1p1, platform, cr1, cr2, fcr, count, unknown, ..] = numbers else { return None };
+        let &[level, size, v1p1, platform, cr1, cr2, fcr, count, unknown, halted, ..] = numbers else { return None };
         let state = State {
             level: Level::from_number(level)?,
             size: if size == 0 { 0 } else { buffer_size(size)? },
@@ -120,6 +133,7 @@ pub trait Rules {
             fcr: (fcr & !FILTER_MASK == 0).then_some(fcr)?,
             count: (count <= count::LIMIT).then_some(count)?,
             unknown: flag(unknown)?,
+            halted: flag(halted)?,
         };
         self.can_be_entered(state.platform, state.level).then_some(state)
     }
@@ -153,12 +167,26 @@ pub trait Rules {
             5 => Operation::Read(Register::from_number(a)?),
             6 => Operation::Write(Register::from_number(a)?, b),
             7 => Operation::InvalidateAll,
+            8 => Operation::Halt { source: a },
+            9 => Operation::Resume { target: a, to: Level::from_number(b)? },
             _ => return None,
         };
         Some(operation)
     }
 
-    /// 5: whether the level permits the operation.
+    /// 8 (document 02, Five): "halted, for codes 1, 2, 3 and 8; not halted, for 9". The other codes are taken either way.
+    fn wrongly_halted(&self, state: &State, operation: &Operation) -> bool {
+        match operation {
+            Operation::Branch { .. }
+            | Operation::Exception { .. }
+            | Operation::Return { .. }
+            | Operation::Halt { .. } => state.halted,
+            Operation::Resume { .. } => !state.halted,
+            _ => false,
+        }
+    }
+
+    /// 5: whether the level permits the operation. Of a resume only the two rules on targets 2 and 1 are asked: it may go up.
     fn permits(&self, state: &State, operation: &Operation) -> bool {
         match *operation {
             Operation::Exception { to, .. } => {
@@ -167,6 +195,7 @@ pub trait Rules {
             Operation::Return { to, .. } => {
                 state.level != Level::EL0 && to <= state.level && self.can_be_entered(state.platform, to)
             }
+            Operation::Resume { to, .. } => self.can_be_entered(state.platform, to),
             Operation::Platform(_) => state.level == Level::EL3,
             _ => true,
         }
@@ -182,6 +211,23 @@ pub trait Rules {
 
     // ---------------------------------------------------------------------------------------------------------------
     // Where recording is prohibited
+
+    /// A side of an event, or where an operation begins: Debug state is prohibited whatever the level is (document 02, Five).
+    fn prohibited_side(&self, state: &State, side: Side) -> bool {
+        match side {
+            Side::Level(level) => self.prohibited(state, level),
+            Side::DebugState => true,
+        }
+    }
+
+    /// Where an operation begins: at the current level, or in Debug state while the processor is halted.
+    fn begins(&self, state: &State) -> Side {
+        if state.halted {
+            Side::DebugState
+        } else {
+            Side::Level(state.level)
+        }
+    }
 
     fn prohibited(&self, state: &State, level: Level) -> bool {
         if level == Level::EL3 {
@@ -209,14 +255,22 @@ pub trait Rules {
     // ---------------------------------------------------------------------------------------------------------------
     // Which events become records
 
-    /// An accepted event: its record, if it becomes one, and the move to its level.
+    /// An accepted event: its record, if it becomes one, and the move to its other side.
     fn happen(&self, state: &mut State, room: &mut [u64], event: Event) {
         if let Some(shape) = self.shape(state, &event) {
             let record = self.record(state, &event, shape);
             room::push(room, state.size, record);
             self.restart_count(state);
         }
-        state.level = event.to;
+        self.enter(state, event.to);
+    }
+
+    /// The move to a level, or to Debug state, in which the level stays as it is.
+    fn enter(&self, state: &mut State, side: Side) {
+        match side {
+            Side::Level(level) => (state.level, state.halted) = (level, false),
+            Side::DebugState => state.halted = true,
+        }
     }
 
     /// Which sides the event's record shows; none where it becomes no record.
@@ -224,7 +278,7 @@ pub trait Rules {
         if state.paused() || !self.wanted(state, event) {
             return None;
         }
-        match (self.prohibited(state, event.from), self.prohibited(state, event.to)) {
+        match (self.prohibited_side(state, event.from), self.prohibited_side(state, event.to)) {
             (true, true) => None,
             (true, false) => Some(Shape::HalfTarget),
             (false, true) => Some(Shape::HalfSource),
@@ -238,7 +292,13 @@ pub trait Rules {
             Cause::Branch(kind) => self.chosen(state.fcr, kind),
             Cause::Exception(_) => self.controlled(state, self.exception_control(event), 23),
             Cause::Return => self.controlled(state, self.return_control(event), 22),
+            Cause::Halt | Cause::Resume => self.debug_wanted(state, event),
         }
+    }
+
+    /// "The branch filter does not touch either" (document 02, Five), and no control is named for a halt or a resume.
+    fn debug_wanted(&self, _: &State, _: &Event) -> bool {
+        true
     }
 
     /// "Recorded exactly when the type's filter bit differs from EnI (bit 16)."
@@ -247,22 +307,23 @@ pub trait Rules {
     }
 
     /// "The control is by target level for exceptions".
-    fn exception_control(&self, event: &Event) -> Level {
+    fn exception_control(&self, event: &Event) -> Side {
         event.to
     }
 
     /// "By the level left for returns".
-    fn return_control(&self, event: &Event) -> Level {
+    fn return_control(&self, event: &Event) -> Side {
         event.from
     }
 
-    /// The control of exceptions or returns by a level. No exception goes to EL0 and no return leaves it.
-    fn controlled(&self, state: &State, level: Level, control: u32) -> bool {
-        match level {
-            Level::EL0 => false,
-            Level::EL1 => bit(state.cr1, control),
-            Level::EL2 => bit(state.cr2, control),
-            Level::EL3 => state.records_el3(),
+    /// The control of exceptions or returns by a level. No exception goes to EL0 and no return leaves it; none of them goes to
+    /// Debug state or leaves it.
+    fn controlled(&self, state: &State, side: Side, control: u32) -> bool {
+        match side {
+            Side::Level(Level::EL0) | Side::DebugState => false,
+            Side::Level(Level::EL1) => bit(state.cr1, control),
+            Side::Level(Level::EL2) => bit(state.cr2, control),
+            Side::Level(Level::EL3) => state.records_el3(),
         }
     }
 
@@ -310,11 +371,16 @@ pub trait Rules {
     // ---------------------------------------------------------------------------------------------------------------
     // Cycles
 
-    /// The cycles of an accepted operation, not a reset, and the first of the occasions: it "began at a prohibited
-    /// level".
+    /// The cycles of an accepted operation, not a reset, and the first of the occasions.
     fn pass(&self, state: &mut State, cycles: u64) {
         state.count_on(cycles);
-        state.unknown |= self.prohibited(state, state.level);
+        state.unknown |= self.began_prohibited(state);
+    }
+
+    /// It "began at a prohibited level", by the state before it; "while halted the level counts as prohibited" (document 02,
+    /// Five), for the resume too. A halt begins at its level.
+    fn began_prohibited(&self, state: &State) -> bool {
+        self.prohibited_side(state, self.begins(state))
     }
 
     /// The next two occasions: a write that "turned counting on", or that "cleared PAUSED from 1".

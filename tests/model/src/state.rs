@@ -24,11 +24,13 @@ pub struct State {
     pub count: u64,
     /// Whether an occasion came since the last record, or no record was made since the reset.
     pub unknown: bool,
+    /// Whether the processor is halted (document 02, Five). The level is then that of the halt.
+    pub halted: bool,
 }
 
 impl State {
     /// How many numbers hold a state.
-    pub const NUMBERS: usize = 9;
+    pub const NUMBERS: usize = 10;
 
     /// The state's numbers, in the order of `docs/DECISIONS.md`, point 21.
     #[inline]
@@ -43,6 +45,7 @@ impl State {
             self.fcr,
             self.count,
             u64::from(self.unknown),
+            u64::from(self.halted),
         ]);
     }
 

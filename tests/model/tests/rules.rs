@@ -1,5 +1,5 @@
 //! Document 01's rules by small examples: the marked cases P9 to P11, each refusal, and the easy errors; and document 02's
-//! rule on BRB IALL.
+//! rules on BRB IALL and on halts.
 
 use model::{Answer, BranchType, Document01, Refusal, Rules, State};
 
@@ -66,7 +66,7 @@ fn marked_filter_words() {
 fn a_reset_zeroes_its_records_and_no_more() {
     let mut session = Session::fresh(30);
     assert_eq!(session.run("0 99 8 1 5 5"), Answer::Done);
-    assert_eq!(session.state, [3, 8, 1, 0, 0, 0, 0, 0, 1]);
+    assert_eq!(session.state, [3, 8, 1, 0, 0, 0, 0, 0, 1, 0]);
     assert_eq!(session.room[..24], [0; 24]);
     assert_eq!(session.room[24..], [7; 6]);
 }
@@ -74,14 +74,14 @@ fn a_reset_zeroes_its_records_and_no_more() {
 #[test]
 fn refusals() {
     let mut session = Session::fresh(24);
-    session.refused("8 0", Refusal::UnknownCode);
+    session.refused("10 0", Refusal::UnknownCode);
     session.refused("1 0 99", Refusal::NotReset);
     for outside in ["0 0 0", "0 0 9", "0 0 8 2"] {
         session.refused(outside, Refusal::OutsideList);
     }
     session.refused("0 0 16 0", Refusal::RoomTooShort);
     session.run(AT_EL1);
-    session.refused("8 0", Refusal::UnknownCode);
+    session.refused("10 0", Refusal::UnknownCode);
     for outside in ["1 0 4", "1 0 0 2", "2 0 33 1", "2 0 34 4", "3 0 4", "3 0 1 2", "4 0 128", "5 0 4", "6 0 128"] {
         session.refused(outside, Refusal::OutsideList);
     }
@@ -106,17 +106,16 @@ fn levels_2_and_1_are_not_always_there() {
 
 #[test]
 fn unsound_states() {
-    let sound = [3, 8, 0, 0, 0, 0, 0, 1_048_576, 1];
-    let unsound =
-        [(0, 4), (0, 2), (1, 9), (2, 2), (3, 128), (3, 1 << 14), (4, 4), (5, 1 << 24), (6, 1), (7, 1_048_577), (8, 2)];
+    let sound = [3, 8, 0, 0, 0, 0, 0, 1_048_576, 1, 1];
+    let numbers = [(0, 4), (0, 2), (1, 9), (2, 2), (3, 128), (3, 1 << 14), (4, 4), (5, 1 << 24), (6, 1)];
     let mut room = [0; 24];
-    for (place, number) in unsound {
+    for (place, number) in numbers.into_iter().chain([(7, 1_048_577), (8, 2), (9, 2)]) {
         let mut state = sound;
         state[place] = number;
-        let answer = Document01.step(&mut state, &mut room, [8, 0, 0, 0, 0, 0]);
+        let answer = Document01.step(&mut state, &mut room, [10, 0, 0, 0, 0, 0]);
         assert_eq!(answer, Answer::Refused(Refusal::NotSound), "state number {place} is {number}");
     }
-    let mut short = [0; 8];
+    let mut short = [0; State::NUMBERS - 1];
     let answer = Document01.step(&mut short, &mut room, [0, 0, 8, 0, 0, 0]);
     assert_eq!(answer, Answer::Refused(Refusal::NotSound));
 }
@@ -168,14 +167,14 @@ fn a_performed_iall_lets_the_count_run_on() {
     let mut session = Session::fresh(24);
     session.run(AT_EL1);
     session.run("1 3 0 0 0 0 / 5 4 1");
-    assert_eq!(session.state[7..], [4, 0]);
+    assert_eq!(session.state[7..9], [4, 0]);
     assert_eq!(session.run("7 600"), Answer::Done);
-    assert_eq!(session.state[7..], [604, 1]);
+    assert_eq!(session.state[7..9], [604, 1]);
     assert_eq!(session.room, [0; 24]);
     session.run("7 5 / 5 1 1");
-    assert_eq!(session.state[7..], [610, 1], "a second one and a read change no more than the count");
+    assert_eq!(session.state[7..9], [610, 1], "a second one and a read change no more than the count");
     session.run("1 3 0 0 0 0");
-    assert_eq!(session.state[7..], [0, 0]);
+    assert_eq!(session.state[7..9], [0, 0]);
 }
 
 /// "A trapped or undefined one is not": the next count is known and has its cycles, and the records stand.
@@ -206,15 +205,15 @@ fn an_iall_at_a_prohibited_level_is_an_occasion() {
     let mut session = Session::fresh(24);
     session.run(&AT_EL1.replace("4 0 49", "4 0 2353"));
     session.run("1 0 0 0 0 0 / 6 0 1 12582937"); // E1BRE off: EL1 is prohibited
-    assert_eq!(session.state[7..], [0, 0], "the write began where recording was not prohibited");
+    assert_eq!(session.state[7..9], [0, 0], "the write began where recording was not prohibited");
     assert_eq!(session.run("7 600"), Answer::Trap2);
-    assert_eq!(session.state[7..], [600, 1]);
+    assert_eq!(session.state[7..9], [600, 1]);
 
     session.run(AT_EL1);
     session.run("6 0 1 12582938 / 3 0 0 0 0 0"); // E0BRE off: EL0 is prohibited, and the return a half-source record
-    assert_eq!(session.state[7..], [0, 0]);
+    assert_eq!(session.state[7..9], [0, 0]);
     assert_eq!(session.run("7 600"), Answer::Undefined);
-    assert_eq!(session.state[7..], [600, 1]);
+    assert_eq!(session.state[7..9], [600, 1]);
 }
 
 #[test]
@@ -224,4 +223,128 @@ fn e2h_redirects_register_1_at_el2() {
     assert_eq!(session.run("5 0 1"), Answer::Read(2));
     session.run("6 0 1 3");
     assert_eq!(session.state[4..6], [1, 3]);
+}
+
+/// The manual's example: 100 cycles after a record a halt at EL1, and 5,000 later a resume there.
+#[test]
+fn a_halt_and_a_resume_are_half_records() {
+    let mut session = Session::fresh(24);
+    session.run(AT_EL1);
+    session.run("1 0 0 0 0 0 / 8 100 4100");
+    assert_eq!(session.newest(), [100 << 32 | 0x21 << 8 | 2, 4100, 0], "half-source, with a known count and level 0");
+    assert_eq!(session.state[7..], [0, 0, 1]);
+    session.run("9 5000 4104 1");
+    assert_eq!(session.newest(), [1 << 46 | 0x39 << 8 | 1 << 6 | 1, 0, 4104], "half-target, with an unknown count");
+    assert_eq!(session.state[7..], [0, 0, 0]);
+    session.run("1 7 0 0 0 0");
+    assert_eq!(session.newest()[0], 7 << 32 | 1 << 6 | 3, "the count after that one is known again");
+}
+
+/// "A halt from a prohibited level makes no record", a resume to one neither; an event of either kind still happens.
+#[test]
+fn halts_and_resumes_on_prohibited_levels_make_no_record() {
+    let mut session = Session::fresh(24);
+    session.run(AT_EL1);
+    session.run("1 0 0 0 0 0 / 6 0 1 12582937"); // E1BRE off: EL1 is prohibited, EL0 is not
+    let newest = session.newest().to_vec();
+    session.run("8 1 4100");
+    assert_eq!((session.newest(), session.state[9]), (&newest[..], 1));
+    session.run("9 1 4104 1");
+    assert_eq!((session.newest(), session.state[9]), (&newest[..], 0));
+    session.run("8 1 4100 / 9 1 4104 0");
+    assert_eq!(session.newest(), [1 << 46 | 0x39 << 8 | 1, 0, 4104], "to EL0");
+    session.run("8 5 4100");
+    assert_eq!(session.newest(), [5 << 32 | 0x21 << 8 | 2, 4100, 0], "from EL0, 5 cycles after the resume's record");
+}
+
+/// "The branch filter does not touch either; PAUSED still does", and no control bit is asked.
+#[test]
+fn no_filter_and_no_control_is_asked() {
+    let mut session = Session::fresh(24);
+    for filter in [0, 0x1_0000, 0x7E_0000, 0x7F_0000] {
+        session.run(AT_EL1);
+        session.run(&format!("6 0 3 {filter} / 6 0 1 2 / 8 0 11"));
+        assert_eq!(session.newest(), [1 << 46 | 0x21 << 8 | 2, 11, 0], "filter {filter:#x}");
+        session.run("9 0 12 1");
+        assert_eq!(session.newest(), [1 << 46 | 0x39 << 8 | 1 << 6 | 1, 0, 12], "filter {filter:#x}");
+    }
+    session.run(AT_EL1);
+    session.run("6 0 3 65664 / 8 0 11 / 9 0 12 1");
+    assert_eq!((session.newest(), session.state[9]), (&[0; 3][..], 0), "PAUSED");
+}
+
+/// 8 comes after 4 and before 5 and 6; 2 and 3 come before it.
+#[test]
+fn what_is_refused_while_halted_or_not() {
+    let mut session = Session::fresh(24);
+    session.refused("9 0 4 1", Refusal::NotReset);
+    session.refused("8 0 4", Refusal::NotReset);
+    session.run(AT_EL1);
+    session.refused("9 0 4 1", Refusal::Halted);
+    session.refused("9 0 4 4", Refusal::OutsideList);
+    session.run("8 0 4");
+    for refused in ["1 0 0", "2 0 34 1", "3 0 1", "8 0 4", "2 0 34 0", "3 0 2"] {
+        session.refused(refused, Refusal::Halted);
+    }
+    for outside in ["1 0 4", "2 0 33 1", "3 0 4", "9 0 4 4", "0 0 9"] {
+        session.refused(outside, Refusal::OutsideList);
+    }
+    session.refused("10 0", Refusal::UnknownCode);
+    session.refused("4 0 0", Refusal::NotPermitted);
+    session.room.truncate(23);
+    session.refused("8 0 4", Refusal::Halted);
+    session.refused("9 0 4 1", Refusal::RoomTooShort);
+}
+
+/// A resume goes to any level but a 2 or a 1 that is not there, also up.
+#[test]
+fn a_resume_may_go_up() {
+    let mut session = Session::fresh(24);
+    for level in 0..4 {
+        session.run(AT_EL1);
+        session.run("3 0 0 / 8 0 4");
+        assert_eq!(session.run(&format!("9 0 4 {level}")), Answer::Done);
+        assert_eq!((session.state[0], session.state[9]), (level, 0));
+    }
+    session.run("0 0 8 0 / 8 0 4");
+    session.refused("9 0 4 2", Refusal::NotPermitted);
+    session.run("4 0 5"); // NS and TGE, handed in while halted at EL3
+    session.refused("9 0 4 1", Refusal::NotPermitted);
+    assert_eq!(session.run("9 0 4 2"), Answer::Done);
+}
+
+/// "Register accesses while halted follow the level's rules", and each is an occasion, as every operation that begins halted.
+#[test]
+fn accesses_while_halted() {
+    let mut session = Session::fresh(24);
+    session.run(AT_EL1);
+    session.run("1 0 0 0 0 0 / 8 3 4");
+    assert_eq!(session.run("5 1 0"), Answer::Read(0x5008));
+    assert_eq!(session.state[7..], [1, 1, 1]);
+    assert_eq!(session.run("5 1 2"), Answer::Undefined);
+    session.run("6 1 1 12582937"); // E1BRE off: the resume makes no record
+    session.run("9 1 4 1 / 6 1 1 12582939");
+    assert_eq!(session.state[7..], [5, 1, 0]);
+    session.run("1 1 0 0 0 0");
+    assert_eq!(session.newest()[0], 1 << 46 | 1 << 6 | 3, "the count after a resume without a record is unknown");
+
+    session.run(&AT_EL1.replace("4 0 49", "4 0 305"));
+    session.run("8 0 4");
+    assert_eq!(session.run("7 1"), Answer::Trap2);
+    session.run(&AT_EL1.replace("4 0 49", "4 0 33"));
+    session.run("8 0 4");
+    assert_eq!(session.run("5 1 32"), Answer::Trap3);
+}
+
+#[test]
+fn a_reset_ends_a_halt() {
+    let mut session = Session::fresh(24);
+    session.run(AT_EL1);
+    session.run("8 0 4 / 0 0 8 1");
+    assert_eq!(session.state, [3, 8, 1, 0, 0, 0, 0, 0, 1, 0]);
+    // A state of size 0 that is halted is sound, and takes nothing but a reset.
+    session.state = [0, 0, 0, 0, 0, 0, 0, 0, 0, 1];
+    session.refused("9 0 4 1", Refusal::NotReset);
+    assert_eq!(session.run("0 0 8 0"), Answer::Done);
+    assert_eq!(session.state[9], 0);
 }

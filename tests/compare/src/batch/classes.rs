@@ -9,8 +9,8 @@ use std::fmt;
 
 /// Which answers a call has, its operations, and those that are refused between two others.
 const CALLED: [u64; 3] = [0, 6, 7];
-const OPERATED: [u64; 10] = [0, 100, 102, 103, 1, 2, 3, 4, 5, 6];
-const MIDDLE: [u64; 4] = [3, 4, 5, 6];
+const OPERATED: [u64; 11] = [0, 100, 102, 103, 1, 2, 3, 4, 8, 5, 6];
+const MIDDLE: [u64; 5] = [3, 4, 8, 5, 6];
 
 /// Where an operation stands that ends its batch.
 const LAST: [&str; 4] = ["1 at the first operation", "1 later", "2 at the first operation", "2 later"];

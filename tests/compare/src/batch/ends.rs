@@ -3,7 +3,7 @@
 use crate::recording::reading::{length, Fault};
 use crate::recording::{damage, make, Recording};
 use crate::Random;
-use model::{Document01, Recordings};
+use model::{Document01, Recordings, LAST_CODE};
 
 /// What the first number that cannot be taken is: malformed in one of five ways, or else an unknown code.
 const REASONS: [Option<Fault>; Ends::KINDS] = [
@@ -40,7 +40,7 @@ impl Ends {
 /// Bytes that are no operation, for this reason.
 fn unreadable(random: &mut Random, end: Option<Fault>) -> Vec<u8> {
     let Some(fault) = end else {
-        let code = Document01.number_bytes(8 + random.of_length(63));
+        let code = Document01.number_bytes(LAST_CODE + 1 + random.of_length(63));
         return followed(random, code);
     };
     let operation = Recording::of(&[make::operation(random)]);

@@ -7,16 +7,17 @@ use crate::generate::{self, Flavour, Generator};
 use crate::recording::{damage, Recording};
 use crate::shares::REASONS;
 use crate::{Call, Random, Sequence};
-use model::{own_fields, Batches, Document01, Rules};
+use model::{own_fields, Batches, Document01, Rules, State};
 
 /// Sizes of buffers, and rooms that hold some of them.
 const SIZES: [u64; 4] = [8, 16, 32, 64];
 const ROOMS: [usize; 6] = [24, 47, 48, 95, 96, 191];
 /// What runs are mostly about: mistakes and accesses more often, since they have more outcomes.
-const FLAVOURS: [Flavour; 8] = [
+const FLAVOURS: [Flavour; 9] = [
     Flavour::Recording,
     Flavour::Roaming,
     Flavour::Boundary,
+    Flavour::Halting,
     Flavour::Accessing,
     Flavour::Accessing,
     Flavour::Careless,
@@ -43,8 +44,8 @@ struct Round<'r> {
 pub fn round(random: &mut Random, ends: &Ends, number: usize) -> Vec<(Batch, Option<usize>)> {
     let mut lent = lent(random);
     let run = run(random, lent.clone()).bytes;
-    // One number at least is lent past the nine.
-    lent.state.extend((lent.state.len()..10).map(|place| place as u64));
+    // One number at least is lent past those of the state.
+    lent.state.extend((lent.state.len()..State::NUMBERS + 1).map(|place| place as u64));
     let mut round = Round { random, ends, number, lent, run };
     let sound = [round.ended(), vec![round.damaged(), round.end_alone(), round.densest(), round.empty()]].concat();
     let sound = sound.into_iter().map(|batch| (batch, None));

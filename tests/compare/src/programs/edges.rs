@@ -31,7 +31,7 @@ fn last_listed(code: u64, place: usize) -> Option<u64> {
         // Registers.
         (5 | 6, 2) => Some(130),
         // Flags and levels.
-        (0..=3, 3) | (3, 2) => Some(9),
+        (0..=3 | 9, 3) | (3, 2) => Some(9),
         _ => None,
     }
 }

@@ -3,7 +3,7 @@
 use super::spelling::{self, Style};
 use crate::recording::make;
 use crate::{Call, Random};
-use model::own_fields;
+use model::{own_fields, LAST_CODE};
 
 /// Words that are no numbers, and others that are no text either.
 const NO_NUMBERS: &str =
@@ -12,6 +12,9 @@ const NO_NUMBERS: &str =
 const ODD: [&[u8]; 8] = [b"1\x0B", b"\x0C1", b"1\x0C", b"\x00", b"1\x00", b"\xC2\xB2", b"1\xC2\xA0", b"\xFF"];
 /// Bytes that are no white space and end nothing.
 const NO_BLANKS: [u8; 11] = *b"\x00\x0B\x0C\x1A\x85\xA0,;_-\\";
+
+/// How many codes there are.
+const CODES: u64 = LAST_CODE + 1;
 
 /// What is wrong with an operation.
 #[derive(Clone, Copy, Debug, PartialEq, Eq)]
@@ -81,12 +84,12 @@ fn words(random: &mut Random, kind: Kind, case: usize, style: Style) -> Vec<Vec<
 
 /// Its numbers, wrong in this way as far as it is numbers that are wrong.
 fn numbers(random: &mut Random, kind: Kind, case: usize) -> Vec<u64> {
-    let code = case as u64 % 8;
+    let code = case as u64 % CODES;
     let own = 2 + own_fields(code).expect("a known code");
     let count = match kind {
         Kind::UnknownCode => return unknown_code(random, case),
         Kind::TooFew => 1 + random.below(own as u64 - 1) as usize,
-        Kind::TooMany => own + 1 + case / 8,
+        Kind::TooMany => own + 1 + case / CODES as usize,
         _ => own,
     };
     let others = (1..count).map(|_| make::any_number(random));
@@ -99,13 +102,13 @@ fn no_number(case: usize) -> Vec<u8> {
     words[case].to_vec()
 }
 
-/// A code above 7, often one whose lowest bits are a code, with as many numbers as that code has or others.
+/// A code above 9, often one whose lowest bits are a code, with as many numbers as that code has or others.
 fn unknown_code(random: &mut Random, case: usize) -> Vec<u64> {
-    let low = random.below(8);
+    let low = random.below(CODES);
     let code = match case {
-        0..=15 => 8 + case as u64,
+        0..=15 => CODES + case as u64,
         16 => u64::MAX,
-        _ => low | 1 << random.one_of(&[3, 4, 7, 8, 16, 32, 63]),
+        _ => low | 1 << random.one_of(&[4, 5, 7, 8, 16, 32, 63]),
     };
     let count =
         if random.percent(50) { 2 + own_fields(low).expect("a known code") as u64 } else { 1 + random.below(7) };

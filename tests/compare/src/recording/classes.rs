@@ -11,7 +11,8 @@ const CYCLES: [&str; 3] = ["with cycles", "with no cycles", "with malformed cycl
 /// Which answers a group has.
 const WRITTEN: [u64; 3] = [0, 2, 6];
 const READ: [u64; 4] = [0, 1, 2, 6];
-const STEPPED: [u64; 11] = [0, 100, 102, 103, 1, 2, 3, 4, 5, 6, 7];
+const CODES: [u64; 10] = [0, 1, 2, 3, 4, 5, 6, 7, 8, 9];
+const STEPPED: [u64; 12] = [0, 100, 102, 103, 1, 2, 3, 4, 8, 5, 6, 7];
 
 /// How often each class was met.
 #[derive(Clone, Debug, Default)]
@@ -21,34 +22,48 @@ pub struct Classes {
     stepped: [u64; STEPPED.len()],
     unknown_codes: [u64; CYCLES.len()],
     faults: [[u64; FAULTS.len()]; NUMBERS.len()],
+    /// Operations that were written, that were read, and that have a bad number behind their code, by the code.
+    written_codes: [u64; CODES.len()],
+    read_codes: [u64; CODES.len()],
+    bad_codes: [u64; CODES.len()],
 }
 
 impl Classes {
-    /// Notes an answer of the writer.
-    pub fn note_written(&mut self, number: u64) {
+    /// Notes an answer of the writer to an operation of this code.
+    pub fn note_written(&mut self, code: u64, number: u64) {
         self.written[place(&WRITTEN, number)] += 1;
+        if number == 0 {
+            self.written_codes[place(&CODES, code)] += 1;
+        }
     }
 
-    /// Notes an answer of the reader, and of a step at the same position.
-    pub fn note_read(&mut self, read: u64, stepped: u64, reading: Reading) {
+    /// Notes an answer of the reader, and of a step at the same position, where the first byte is this one.
+    pub fn note_read(&mut self, read: u64, stepped: u64, reading: Reading, first: Option<u8>) {
         self.read[place(&READ, read)] += 1;
         self.stepped[place(&STEPPED, stepped)] += 1;
         if read == 6 || stepped == 7 {
             // One of the two did not come to the bytes.
             return;
         }
+        let code = |first: Option<u8>| place(&CODES, first.map_or(u64::MAX, u64::from));
         match reading {
-            Reading::Operation => {}
+            Reading::Operation => self.read_codes[code(first)] += 1,
             Reading::UnknownCode { cycles: None } => self.unknown_codes[0] += 1,
             Reading::UnknownCode { cycles: Some(Fault::Missing | Fault::CutOff) } => self.unknown_codes[1] += 1,
             Reading::UnknownCode { cycles: Some(_) } => self.unknown_codes[2] += 1,
-            Reading::Faulty { number, fault } => self.faults[number][fault as usize] += 1,
+            Reading::Faulty { number, fault } => {
+                self.faults[number][fault as usize] += 1;
+                if number > 0 {
+                    self.bad_codes[code(first)] += 1;
+                }
+            }
         }
     }
 
     /// The classes of writing that were met fewer than `least` times.
     pub fn rarely_written(&self, least: u64) -> Vec<String> {
-        rare(named("written", &WRITTEN, &self.written), least)
+        let codes = named("written code", &CODES, &self.written_codes);
+        rare(named("written", &WRITTEN, &self.written).chain(codes), least)
     }
 
     /// The classes of reading and stepping that were met fewer than `least` times.
@@ -59,7 +74,9 @@ impl Classes {
         let faults = NUMBERS.iter().zip(&self.faults).flat_map(|(number, met)| {
             FAULTS.iter().zip(met).map(move |(fault, &met)| (format!("{number} {fault}"), met))
         });
-        rare(read.chain(stepped).chain(unknown).chain(faults), least)
+        let read_codes = named("read code", &CODES, &self.read_codes);
+        let bad_codes = named("a bad number behind code", &CODES, &self.bad_codes);
+        rare(read.chain(stepped).chain(unknown).chain(faults).chain(read_codes).chain(bad_codes), least)
     }
 }
 
@@ -85,6 +102,9 @@ impl fmt::Display for Classes {
         answers(f, "written", &WRITTEN, &self.written)?;
         answers(f, "read", &READ, &self.read)?;
         answers(f, "stepped", &STEPPED, &self.stepped)?;
+        answers(f, "codes written ", &CODES, &self.written_codes)?;
+        answers(f, "codes read ", &CODES, &self.read_codes)?;
+        answers(f, "codes before a bad number ", &CODES, &self.bad_codes)?;
         if self.read.iter().all(|&met| met == 0) {
             return Ok(());
         }

@@ -2,6 +2,7 @@
 
 use crate::recording::Recording;
 use crate::Random;
+use model::LAST_CODE;
 
 /// Damaged bytes, and the first byte that is not as it was.
 #[derive(Clone, Debug)]
@@ -76,7 +77,8 @@ pub fn anywhere(recording: &Recording, random: &mut Random) -> Vec<u8> {
 pub fn noise(random: &mut Random) -> Vec<u8> {
     let small = random.below(101);
     let length = random.below(100);
-    let byte = |random: &mut Random| if random.percent(small) { random.below(9) } else { random.below(256) };
+    let byte =
+        |random: &mut Random| if random.percent(small) { random.below(LAST_CODE + 2) } else { random.below(256) };
     (0..length).map(|_| byte(random) as u8).collect()
 }
 

@@ -3,7 +3,7 @@
 use crate::engine::Lent;
 use crate::generate::{Flavour, Generator};
 use crate::{Call, Random, Sequence};
-use model::{own_fields, Document01, Recordings, Rules};
+use model::{own_fields, Document01, Recordings, Rules, LAST_CODE};
 use std::ops::Range;
 
 /// Operations with known codes, made as they go from a fresh state, and their bytes by the model.
@@ -84,7 +84,7 @@ pub fn operation(random: &mut Random) -> Call {
     for number in &mut numbers {
         *number = any_number(random);
     }
-    numbers[0] = random.below(8);
+    numbers[0] = random.below(LAST_CODE + 1);
     Call(numbers)
 }
 

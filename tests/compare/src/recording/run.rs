@@ -7,7 +7,7 @@ use crate::recording::{make, Answered, Classes, Reading, Recorded, Recording, Wr
 use crate::run::Disagreement;
 use crate::shrink::shrink;
 use crate::{Call, Case, Engine, Random, Sequence};
-use model::{Document01, Recordings};
+use model::{Document01, Recordings, LAST_CODE};
 
 /// The room of whole recordings: that of 64 records and some more.
 const ROOM: usize = 200;
@@ -24,7 +24,7 @@ pub fn writings(
     for after in 0..operations {
         let written = writing(random);
         match written.compare(engines) {
-            Ok(((number, _), _)) => classes.note_written(number),
+            Ok(((number, _), _)) => classes.note_written(written.call.code(), number),
             Err(_) => return Err(disagreement(written, after, |written| written.compare(engines).err())),
         }
     }
@@ -43,7 +43,7 @@ fn writing(random: &mut Random) -> Written {
         _ => usual + needed + random.below(12) as usize,
     };
     if random.percent(10) {
-        call.0[0] = 8 + random.of_length(63);
+        call.0[0] = LAST_CODE + 1 + random.of_length(63);
     }
     let bytes = (0..length).map(|_| random.number() as u8).collect();
     Written { at: make::position(random, length, usual), bytes, call }
@@ -163,7 +163,7 @@ fn compared(
             let (read, step) = (answered.read.0, answered.step.0);
             assert!(read == 6 || read == reading.number(), "{recorded}: read {read}, by its bytes {reading:?}");
             assert!(read != 0 || written_again(engines[0], recorded, &answered), "{recorded}: not what is written");
-            classes.note_read(read, step, reading);
+            classes.note_read(read, step, reading, recorded.bytes.get(recorded.at).copied());
             Ok((step, answered.next, answered.lent))
         }
         Err(_) => Err(disagreement(recorded.clone(), after, |recorded| recorded.compare(engines).err())),

@@ -8,11 +8,21 @@ use compare::seed::{self, say};
 use compare::{Library, Modelled, Random, Shares};
 use model::Document01;
 
-const ROUNDS: usize = 6_120;
+const ROUNDS: usize = 10_400;
 /// Fewer cases of a class than this prove nothing.
 const LEAST: u64 = 1_000;
 /// Groups of outcomes of single calls, which other tests meet.
-const NOT_HERE: [&str; 4] = ["answers", "events", "records", "counts after BRB IALL"];
+const NOT_HERE: [&str; 9] = [
+    "answers",
+    "events",
+    "records",
+    "counts after BRB IALL",
+    "halts at each level",
+    "resumes to each level",
+    "what 8 refuses",
+    "while halted",
+    "counts and halts",
+];
 
 const ENGINES: [&dyn Batching; 2] = [&Library, &Modelled(Document01)];
 
