@@ -35,10 +35,11 @@ CONDDIR = 8
 abbrev pub exceptionReturn : ℕ
 exceptionReturn = 7
 
--- What the records of a halt and of a resume show: Debug halt, and Debug state exit. No filter bit belongs to them either.
+-- Debug halt: what the record of a halt shows. No filter bit belongs to it either.
 abbrev pub debugHalt : ℕ
 debugHalt = 0x21
 
+-- Debug state exit: what the record of a resume shows.
 abbrev pub debugExit : ℕ
 debugExit = 0x39
 
