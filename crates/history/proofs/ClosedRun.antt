@@ -1,9 +1,10 @@
--- A closed run: records of a stretch that are counted, one of them rounded, BRB IALL before them, and a refused operation in their midst.
+-- A closed run: records of a stretch that are counted, one of them rounded, BRB IALL before them, a refused operation in their midst; and one with a halt and a resume.
 use Prim.Native.Nat.{ℕ, _+_}
 use mathlib.Core.Path.{_≡_, refl}
 use mathlib.Core.Bool.{Bool, true, false}
 use mathlib.Core.List.{List, [], _∷_, _++_, map}
-use lib.ListN.{length, replicate}
+use lib.ListN.{length, replicate, take}
+use Rattle.bits.specs.Bits.{part}
 use Rattle.state.specs.Named.{fresh}
 use Rattle.room.specs.declared.Record.{Record}
 use Rattle.operation.specs.Operation.{operationOf}
@@ -128,3 +129,20 @@ pub closed-occasions : map {B = ℕ × ℕ} (λ (r : Record). (CCU r, CC r)) (sh
     ≡ (0, 75) ∷ (0, 60) ∷ (1, 0) ∷ (0, 40) ∷ (1, 0) ∷ (0, 20) ∷ (1, 0) ∷ (1, 0) ∷ []
 unfolding bitLength exponent mantissa encoded smallestOf largestOf decoded unavailable sound records numbered pushed cleared roomAfter enabled prohibited filterBit passesFilter controlled valid countUnknown MPRED BRBINF recordOf becomesRecord nBit trapped2 outcome readOutcome writeOutcome iallOutcome registerWritten operationOf unknownCode notReset outsideList wrongHalted wrongLevel roomTooShort refusalOf changed occasion passed effectOf answerOf accepted stepOf stepped run notedStep notedRun stretch endSum acceptedCycles howMany
 closed-occasions = refl
+
+-- A halt 100 cycles after the record of `before`, a read and 5,000 cycles in Debug state, a resume to EL1, and a branch.
+abbrev halts : List Timed
+halts =
+    before
+    ++ (operation 8 100 4112 0 0 0 ∷ operation 5 7 32 0 0 0 ∷ operation 9 5000 4096 1 0 0 ∷ operation 1 60 0 0 4100 4112 ∷ [])
+
+-- CCU, CC, TYPE, VALID and the addresses of the four newest records: the branch's count is known again, the resume's is not, and the halt's is.
+-- Demand 3 speaks of the branch after the resume and of the halt, and of no stretch over the resume.
+pub closed-halts : (map {B = ℕ × ℕ × ℕ × ℕ × ℕ × ℕ} (λ (r : Record). (CCU r, CC r, part 13 8 (r .inf), part 1 0 (r .inf), r .source, r .target))
+    (take 4 (shown (run start halts)))
+    ≡ (0, 60, 0, 3, 4100, 4112) ∷ (1, 0, 0x39, 1, 0, 4096) ∷ (0, 100, 0x21, 2, 4112, 0) ∷ (1, 0, 8, 3, 4112, 4096) ∷ [])
+    × (_≡_ {A = Bool × ℕ × ℕ} (stretch (shown (run start halts)) 0 1, S (shown (run start halts)) 0 1, T (notesOf start halts) 0 1) (true, 60, 60))
+    × (_≡_ {A = Bool × ℕ × ℕ} (stretch (shown (run start halts)) 2 1, S (shown (run start halts)) 2 1, T (notesOf start halts) 2 1) (true, 100, 100))
+    × (stretch (shown (run start halts)) 0 2 ≡ false)
+unfolding bitLength exponent mantissa encoded smallestOf largestOf decoded unavailable sound records numbered pushed cleared roomAfter enabled prohibited filterBit passesFilter controlled valid countUnknown MPRED BRBINF recordOf becomesRecord nBit trapped2 outcome readOutcome writeOutcome iallOutcome registerWritten operationOf unknownCode notReset outsideList wrongHalted wrongLevel roomTooShort refusalOf changed occasion passed effectOf answerOf accepted stepOf stepped run notedStep notedRun stretch endSum acceptedCycles howMany
+closed-halts = (refl, refl, refl, refl)
