@@ -1,7 +1,7 @@
 -- The occasions on which the next count becomes unknown, as document 01 ("Cycles") and document 02 (One and Five) list them, and that they are those of the definition.
 use Prim.Native.Nat.{ℕ}
 use mathlib.Core.Path.{_≡_, refl, sym, ap, _∙_}
-use mathlib.Core.Bool.{Bool, true, false, cond, _&&_, _||_, not}
+use mathlib.Core.Bool.{Bool, true, false, _&&_, _||_, not}
 use mathlib.Core.Logic.{⊎-elim}
 use lib.Dec.{eqb}
 use Rattle.bits.proofs.Cases.{never, or-true, one-of-two}

@@ -1,10 +1,10 @@
 -- Which events become records: PAUSED, the filter, the control of exceptions and returns, and the two sides decide it, in Arm's words.
 use Prim.Native.Nat.{ℕ, zero, suc, _≤_}
 use native.Mathlib.Omega.{arith}
-use mathlib.Core.Path.{_≡_, refl, sym, _∙_}
+use mathlib.Core.Path.{_≡_, refl, sym}
 use mathlib.Core.Bool.{Bool, true, false, cond, _&&_, _||_, not}
 use mathlib.Core.Logic.{_↔_}
-use lib.Dec.{eqb, leb}
+use lib.Dec.{eqb}
 use borrow.Author.Tests.{eq-eqb, eqb-true, leb-true, ltb-false}
 use Rattle.bits.specs.Bits.{isSet}
 use Rattle.bits.proofs.Cases.{never}
@@ -18,7 +18,7 @@ use Rattle.region.specs.Region.{prohibited}
 use Rattle.region.proofs.Laws.{in-Debug-state}
 use Rattle.room.specs.declared.Record.{Record}
 use Rattle.room.specs.declared.Effect.{Effect}
-use Rattle.room.specs.declared.Effect.the-variants.{Keep, Push, Clear, ResetTo}
+use Rattle.room.specs.declared.Effect.the-variants.{Keep, Push, Clear}
 use Rattle.filter.specs.Filter.{passesFilter}
 use Rattle.event.specs.declared.Event.{Event}
 use Rattle.event.specs.Event.{controlled, recordOf, becomesRecord, eventEffect}

@@ -1,6 +1,5 @@
 -- What an accepted operation does, one clause an operation: document 01, "Operations", "Which events become records" and
 -- "Access outcomes"; document 02, Five; docs/MANUAL.md, "Operations".
-use Prim.Native.Nat.{ℕ}
 use mathlib.Core.Bool.{true, cond}
 use mathlib.Core.List.{List}
 use Rattle.answer.specs.declared.Answer.{Answer}

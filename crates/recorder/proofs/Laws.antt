@@ -13,7 +13,6 @@ use Rattle.state.specs.declared.State.{State}
 use Rattle.state.specs.declared.Running.{Running}
 use Rattle.state.specs.Named.{E2H, withRunning}
 use Rattle.room.specs.declared.Record.{Record}
-use Rattle.room.specs.Room.{records, roomAfter}
 use Rattle.access.specs.Access.{readOutcome, writeOutcome, meant, shownRecord, shownNumber, registerValue, registerWritten}
 use Rattle.access.proofs.Laws.{keptOf, written-reads}
 use Rattle.operation.specs.declared.Operation.{Operation}

@@ -1,5 +1,4 @@
 -- Where recording is prohibited, in Arm's own words: "Execution at … is a BRBE Prohibited region when any of the following are true".
-use Prim.Native.Nat.{ℕ}
 use mathlib.Core.Path.{_≡_, refl, _∙_}
 use mathlib.Core.Bool.{Bool, true, false, cond, _&&_, _||_, not}
 use lib.Dec.{eqb}

@@ -1,6 +1,5 @@
 // The state of the model (document 01, "Operations" and refusal 7; document 02, Five; docs/MANUAL.md, "State and room").
 ghost use mathlib.Core.Path.{_≡_};
-ghost use mathlib.Core.Bool.{Bool};
 ghost use Rattle.bits.specs.Bits.{oneOf};
 ghost use Rattle.state.specs.Named.{EL2Enabled, EL3RecordingEnabled, counting, predictionShown, PAUSED, BANK, side, sizes, fresh, afterReset, atLevel, inDebugState, resumedAt, withPlatform, withRegisters, withRunning};
 ghost use Rattle.state.specs.Sound.{unavailable, sound};
