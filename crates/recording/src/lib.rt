@@ -56,8 +56,9 @@ const MALFORMED: u64 = 1;
 
 const UNKNOWN_CODE: u64 = 2;
 
-// How many fields each code has (document 01, "Operations"): 0 for a code past the last, which has none. A chain and no table,
-// since a table is laid out on the stack at every call.
+// How many fields each code has (document 01, "Operations"; document 02, Five): 0 for a code past the last, which has none. A chain
+// and no table, since a table is laid out on the stack at every call; and one of bounds, since the compiler makes a table of single
+// codes, and then no longer sees that there are at most four fields: it would not unroll the loop that reads them.
 pub fn field_count(code: u64) -> u64
     ensures { λ r. ⌜ (r ≡ fieldCount code) × (r ≤ 4) ⌝ }
 {
@@ -70,13 +71,16 @@ pub fn field_count(code: u64) -> u64
     if code <= 5 {
         return 1;
     }
-    if code == 6 {
+    if code <= 6 {
         return 2;
     }
-    if code == 8 {
+    if code <= 7 {
+        return 0;
+    }
+    if code <= 8 {
         return 1;
     }
-    if code == 9 {
+    if code <= 9 {
         return 2;
     }
     0

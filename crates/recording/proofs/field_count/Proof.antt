@@ -2,10 +2,8 @@
 use Prim.Native.Nat.{ℕ, zero, suc, _≤_, _<_}
 use mathlib.Core.Path.{_≡_, refl, sym, ap}
 use mathlib.Core.List.{[], _∷_}
-use mathlib.Core.Logic.{⊎-elim}
 use native.Mathlib.Omega.{arith}
 use lib.ListN.{List·getD-eq-default}
-use Rattle.bits.proofs.Cases.{below-or-not}
 use Rattle.recording.specs.Recording.{fieldCount}
 use Rattle.recording.proofs.field_count.Statement.{statement}
 use Rattle.recording.proofs.field_count.Tie as tie
@@ -28,13 +26,14 @@ one (suc zero) h g = absurd (omega arith)
 one (suc (suc zero)) h g = absurd (omega arith)
 one (suc (suc (suc zero))) h g = absurd (omega arith)
 
--- Past the codes that have fields
-none : (code : ℕ) → 6 < code → (code ≡ 8 → ⊥) → (code ≡ 9 → ⊥) → 0 ≡ fieldCount code
+-- A code between two bounds is the only one there.
+only : (code n : ℕ) → n ≤ code → code ≤ n → fieldCount n ≡ fieldCount code
+only code n low high = let same : n ≡ code = omega arith in ap fieldCount same
+
+-- Past the last code
+none : (code : ℕ) → 9 < code → 0 ≡ fieldCount code
 unfolding fieldCount
-none code h eight nine =
-    ⊎-elim (λ below. let seven : code ≡ 7 = omega (arith, eight, nine) in sym (ap fieldCount seven))
-    (λ past. sym (List·getD-eq-default (2 ∷ 4 ∷ 4 ∷ 4 ∷ 1 ∷ 1 ∷ 2 ∷ 0 ∷ 1 ∷ 2 ∷ []) 0 {n = code} past))
-    (below-or-not code 10)
+none code past = sym (List·getD-eq-default (2 ∷ 4 ∷ 4 ∷ 4 ∷ 1 ∷ 1 ∷ 2 ∷ 0 ∷ 1 ∷ 2 ∷ []) 0 {n = code} past)
 
 pub field-count-spec : {M : Type 1} → statement M
 unfolding fieldCount
@@ -44,7 +43,8 @@ field-count-spec =
     (λ c. (sym (ap fieldCount (c .if1 .taken)), omega arith))
     (λ c. (four (c .before .before .args .code) (omega arith) (omega arith), omega arith))
     (λ c. (one (c .before .before .before .args .code) (omega arith) (omega arith), omega arith))
-    (λ c. (sym (ap fieldCount (c .if4 .taken)), omega arith))
-    (λ c. (sym (ap fieldCount (c .if5 .taken)), omega arith))
-    (λ c. (sym (ap fieldCount (c .if6 .taken)), omega arith))
-    (λ c. (none (c .before .before .before .before .before .before .args .code) (omega arith) (λ e. omega arith) (λ e. omega arith), omega arith)))
+    (λ c. (only (c .before .before .before .before .args .code) 6 (omega arith) (omega arith), omega arith))
+    (λ c. (only (c .before .before .before .before .before .args .code) 7 (omega arith) (omega arith), omega arith))
+    (λ c. (only (c .before .before .before .before .before .before .args .code) 8 (omega arith) (omega arith), omega arith))
+    (λ c. (only (c .before .before .before .before .before .before .before .args .code) 9 (omega arith) (omega arith), omega arith))
+    (λ c. (none (c .before .before .before .before .before .before .before .args .code) (omega arith), omega arith)))
