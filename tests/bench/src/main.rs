@@ -7,6 +7,7 @@ mod branches;
 mod read;
 mod replay;
 
+use std::path::PathBuf;
 use std::process::ExitCode;
 
 const USAGE: &str = "\
@@ -15,6 +16,7 @@ replay program, if it is built, on files of 1000000 operations, beside the Rust 
 reading a recording's operations beside a reader in C.
 
 usage: bench [--operations N] [--rounds N] [--quick] [--batch | --read | --replay]
+             [--program FILE]
 
   --operations N   operations a round (default 1000000)
   --rounds N       rounds, of which the medians count (default 15)
@@ -22,6 +24,7 @@ usage: bench [--operations N] [--rounds N] [--quick] [--batch | --read | --repla
   --batch          the batches alone
   --read           the reading alone
   --replay         the replay alone
+  --program FILE   the replay program (default target/bin/replay)
   --help           this text
 
 A line a buffer size: nanoseconds an operation of both, and their ratio. Then the
@@ -51,11 +54,20 @@ struct Options {
     in_batches: usize,
     rounds: usize,
     part: Part,
+    /// The replay program.
+    program: PathBuf,
+}
+
+impl Default for Options {
+    fn default() -> Options {
+        let program = concat!(env!("CARGO_MANIFEST_DIR"), "/../../target/bin/replay").into();
+        Options { operations: 1_000_000, in_batches: 1_000_000, rounds: 15, part: Part::All, program }
+    }
 }
 
 /// The options, or none where help is asked for.
 fn options(mut arguments: impl Iterator<Item = String>) -> Result<Option<Options>, String> {
-    let mut options = Options { operations: 1_000_000, in_batches: 1_000_000, rounds: 15, part: Part::All };
+    let mut options = Options::default();
     while let Some(argument) = arguments.next() {
         let place = match argument.as_str() {
             "--help" | "-h" => return Ok(None),
@@ -73,6 +85,10 @@ fn options(mut arguments: impl Iterator<Item = String>) -> Result<Option<Options
             }
             "--replay" => {
                 options.part = Part::Replay;
+                continue;
+            }
+            "--program" => {
+                options.program = arguments.next().ok_or("--program needs a file")?.into();
                 continue;
             }
             "--operations" => &mut options.operations,

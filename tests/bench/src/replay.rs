@@ -116,14 +116,14 @@ fn report_memory(path: &Path, branches: &[Numbers]) -> std::io::Result<()> {
 
 /// The program's time beside the model's, and its peak memory; a line that says so where it is not built.
 pub fn report(options: &Options) -> std::io::Result<()> {
-    let path = Path::new(env!("CARGO_MANIFEST_DIR")).join("../../target/bin/replay");
+    let path = &options.program;
     if !path.is_file() {
-        println!("replay: skipped, the program target/bin/replay is not built");
+        println!("replay: skipped, there is no program {}", path.display());
         return Ok(());
     }
     let kinds = branches::kinds();
     for (kind, branches) in &kinds {
-        report_time(&path, kind, branches, options.rounds)?;
+        report_time(path, kind, branches, options.rounds)?;
     }
-    report_memory(&path, &kinds[0].1)
+    report_memory(path, &kinds[0].1)
 }
