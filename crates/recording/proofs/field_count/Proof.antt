@@ -41,10 +41,11 @@ field-count-spec =
     tie.close
     (tie.spec
     (λ c. (sym (ap fieldCount (c .if1 .taken)), omega arith))
-    (λ c. (four (c .before .before .args .code) (omega arith) (omega arith), omega arith))
-    (λ c. (one (c .before .before .before .args .code) (omega arith) (omega arith), omega arith))
-    (λ c. (only (c .before .before .before .before .args .code) 6 (omega arith) (omega arith), omega arith))
-    (λ c. (only (c .before .before .before .before .before .args .code) 7 (omega arith) (omega arith), omega arith))
-    (λ c. (only (c .before .before .before .before .before .before .args .code) 8 (omega arith) (omega arith), omega arith))
-    (λ c. (only (c .before .before .before .before .before .before .before .args .code) 9 (omega arith) (omega arith), omega arith))
-    (λ c. (none (c .before .before .before .before .before .before .before .args .code) (omega arith), omega arith)))
+    (λ c. (sym (ap fieldCount (c .if2 .taken)), omega arith))
+    (λ c. (four (c .before .before .before .args .code) (omega arith) (omega arith), omega arith))
+    (λ c. (one (c .before .before .before .before .args .code) (omega arith) (omega arith), omega arith))
+    (λ c. (only (c .before .before .before .before .before .args .code) 6 (omega arith) (omega arith), omega arith))
+    (λ c. (only (c .before .before .before .before .before .before .args .code) 7 (omega arith) (omega arith), omega arith))
+    (λ c. (only (c .before .before .before .before .before .before .before .args .code) 8 (omega arith) (omega arith), omega arith))
+    (λ c. (only (c .before .before .before .before .before .before .before .before .args .code) 9 (omega arith) (omega arith), omega arith))
+    (λ c. (none (c .before .before .before .before .before .before .before .before .args .code) (omega arith), omega arith)))
