@@ -1,7 +1,10 @@
-/* A proved model of one processor's Arm branch record buffer (BRBE), version 2.0.0. docs/MANUAL.md says all of it: what
+/* A proved model of one processor's Arm branch record buffer (BRBE), version 3.0.0. docs/MANUAL.md says all of it: what
  * each operation does, each register, each refusal.
  *
- * What changed for a host in 2.0.0: a state has ten numbers, the last of which says whether the processor is halted, so that a
+ * What changed for a host in 3.0.0: a state has eleven numbers, the last of which is BRBTS_EL1, so that a host that lends ten
+ * of its own is answered 7; one that goes by BRB_STATE_NUMBERS and begins with zeros needs to be compiled again and no more. Code
+ * 10, which was refused with 2, is a freeze; register 4, which was refused with 4, is BRBTS_EL1; bits 8 and 6:5 of BRBCR_EL1 and
+ * BRBCR_EL2 have their effect. In 2.0.0: a state has ten numbers, the last of which says whether the processor is halted, so that a
  * host that lends nine of its own is answered 7; one that goes by BRB_STATE_NUMBERS and begins with zeros needs to be compiled
  * again and no more. Codes 8 and 9 are halts and resumes, which were refused with 2, and have a refusal of their own,
  * BRB_REFUSED_HALTED. In 1.0.0: brb_count_decode answers the smallest and the largest count that share an encoding, as a
@@ -18,8 +21,8 @@
  * every function: the area is then never touched. Two lent areas of one call must not overlap.
  *
  * The state is BRB_STATE_NUMBERS numbers, in this order: level, size, v1p1, P, BRBCR_EL1, BRBCR_EL2, BRBFCR_EL1, the
- * running count, whether the next count is unknown, and whether the processor is halted. All zeros is a fresh state, in which only a reset is accepted.
- * More numbers may be lent; those past the needed ones are never written.
+ * running count, whether the next count is unknown, whether the processor is halted, and BRBTS_EL1. All zeros is a fresh
+ * state, in which only a reset is accepted. More numbers may be lent; those past the needed ones are never written.
  *
  * The room holds the records, newest first: record r is BRBINF, BRBSRC, BRBTGT at 3r, 3r+1, 3r+2. It must hold
  * BRB_ROOM_NUMBERS(size) numbers, for the size after the operation; those past them are never written.
@@ -30,9 +33,9 @@
  *   102    accepted, the access traps to EL2       (value 0)
  *   103    accepted, the access traps to EL3       (value 0)
  *     1    refused: a malformed number, in a recording
- *     2    refused: a code above 9
+ *     2    refused: a code above 10
  *     3    refused: no reset yet (size 0), and the code is not 0
- *     4    refused: size, flag, type, level, register, P or count encoding outside its list
+ *     4    refused: size, flag, type, level, register, P, group or count encoding outside its list
  *     8    refused: the processor is halted, and the operation is a branch, an exception, a return or a halt; or it is not
  *          halted, and the operation is a resume
  *     5    refused: the level does not permit the operation
@@ -59,10 +62,10 @@ extern "C" {
 
 /* This header's version. It grows in MAJOR where a host has to change, in MINOR where something is added or an answer becomes
  * another. */
-#define BRB_VERSION_MAJOR 2
+#define BRB_VERSION_MAJOR 3
 #define BRB_VERSION_MINOR 0
 #define BRB_VERSION_PATCH 0
-#define BRB_VERSION "2.0.0"
+#define BRB_VERSION "3.0.0"
 
 /* A constant of 64 bits. C89 has no literal for it, and C++ warns of C's casts. */
 #ifdef __cplusplus
@@ -86,6 +89,7 @@ extern "C" {
 #define BRB_CODE_IALL 7
 #define BRB_CODE_HALT 8
 #define BRB_CODE_RESUME 9
+#define BRB_CODE_FREEZE 10
 
 /* Answers of accepted operations. */
 #define BRB_DONE 0
@@ -112,6 +116,7 @@ extern "C" {
 #define BRB_REGISTER_BRBCR_EL1 1
 #define BRB_REGISTER_BRBCR_EL2 2
 #define BRB_REGISTER_BRBFCR_EL1 3
+#define BRB_REGISTER_BRBTS_EL1 4
 #define BRB_REGISTER_BRBINF(m) (32 + (m))
 #define BRB_REGISTER_BRBSRC(m) (64 + (m))
 #define BRB_REGISTER_BRBTGT(m) (96 + (m))
@@ -120,7 +125,7 @@ extern "C" {
 #define BRB_BRBIDR0_EL1(size) (0x5000 + (size))
 
 /* How many numbers a state has. */
-#define BRB_STATE_NUMBERS 10
+#define BRB_STATE_NUMBERS 11
 
 /* Where each number of a state stands. */
 #define BRB_STATE_LEVEL 0
@@ -133,6 +138,7 @@ extern "C" {
 #define BRB_STATE_COUNT 7
 #define BRB_STATE_UNKNOWN 8
 #define BRB_STATE_HALTED 9
+#define BRB_STATE_BRBTS_EL1 10
 
 /* How many numbers the records of a buffer of this size take; the largest size, and the room for it. */
 #define BRB_ROOM_NUMBERS(size) (3 * (size))
@@ -188,7 +194,7 @@ extern "C" {
 #define BRB_P_NBRBIALL BRB_BIT(13)
 #define BRB_P_MASK BRB_NUMBER(0x3F7F)
 
-/* BRBCR_EL1 and BRBCR_EL2: their bits, and all that a write keeps. */
+/* BRBCR_EL1 and BRBCR_EL2: their bits, and all that a write keeps. TS is a field of two bits: BRB_CONTROL_TS_IS(n) has n in it. */
 #define BRB_CONTROL_E0BRE BRB_BIT(0)
 #define BRB_CONTROL_E0HBRE BRB_BIT(0)
 #define BRB_CONTROL_E1BRE BRB_BIT(1)
@@ -196,10 +202,18 @@ extern "C" {
 #define BRB_CONTROL_CC BRB_BIT(3)
 #define BRB_CONTROL_MPRED BRB_BIT(4)
 #define BRB_CONTROL_TS BRB_FIELD(6, 5)
+#define BRB_CONTROL_TS_IS(n) (BRB_NUMBER(n) << 5)
 #define BRB_CONTROL_FZP BRB_BIT(8)
 #define BRB_CONTROL_ERTN BRB_BIT(22)
 #define BRB_CONTROL_EXCEPTION BRB_BIT(23)
 #define BRB_CONTROL_MASK BRB_NUMBER(0xC0017B)
+
+/* What TS chooses as the time of a freeze: the physical count less the virtual offset, less the guest offset, or as it is.
+ * BRBCR_EL2's TS decides, or BRBCR_EL1's where it is 0; where both are 0 the time is 0. */
+#define BRB_TS_NONE 0
+#define BRB_TS_VIRTUAL 1
+#define BRB_TS_GUEST 2
+#define BRB_TS_PHYSICAL 3
 
 /* BRBFCR_EL1: its bits, and all that a write keeps. BANK is a field of two bits: BRB_FILTER_BANK_IS(n) has n in it. */
 #define BRB_FILTER_PAUSED BRB_BIT(7)
@@ -268,9 +282,10 @@ struct brb_answer {
  *     7  BRB IALL
  *     8  halt               a source
  *     9  resume             a target, b target level
+ *    10  freeze             a group (0, 1), b physical count, c virtual offset, d guest offset
  * Numbers beyond an operation's own fields are not looked at.
- * Registers: 0 BRBIDR0_EL1, 1 BRBCR_EL1, 2 BRBCR_EL2, 3 BRBFCR_EL1, and with m from 0 to 31, 32+m BRBINF, 64+m BRBSRC,
- * 96+m BRBTGT.
+ * Registers: 0 BRBIDR0_EL1, 1 BRBCR_EL1, 2 BRBCR_EL2, 3 BRBFCR_EL1, 4 BRBTS_EL1, and with m from 0 to 31, 32+m BRBINF,
+ * 64+m BRBSRC, 96+m BRBTGT.
  * No state at all (a length of 0, NULL too) is 7; no room at all is 6, where nothing else is refused. */
 struct brb_answer brb_step(uint64_t *state, size_t state_numbers, uint64_t *room, size_t room_numbers, uint64_t code,
                            uint64_t cycles, uint64_t a, uint64_t b, uint64_t c, uint64_t d);
@@ -318,13 +333,13 @@ struct brb_answer brb_bank_target(const uint64_t *room, size_t room_numbers, uin
 
 /* The operation at position `at` of a recording, into `place`: code, cycles, then its fields, and 0 for those that it has
  * not. Answers 0 and the position after it; or 6 where `place` has fewer than BRB_OPERATION_NUMBERS (checked first), 1
- * where a number is malformed or the input ends inside the operation, 2 where the code is above 9, each with the value 0
+ * where a number is malformed or the input ends inside the operation, 2 where the code is above 10, each with the value 0
  * and `place` as it was. Numbers of `place` past the six are never written. No place at all (a length of 0, NULL too) is 6,
  * no bytes at all are 1. */
 struct brb_answer brb_recording_read(const uint8_t *bytes, size_t length, size_t at, uint64_t *place,
                                      size_t place_numbers);
 
-/* An operation at position `at` of lent bytes. Answers 0 and the number of bytes written; or 2 where the code is above 9,
+/* An operation at position `at` of lent bytes. Answers 0 and the number of bytes written; or 2 where the code is above 10,
  * then 6 where the operation has no room there, each with the value 0 and no byte written. Nothing else is checked: any
  * numbers are written. Bytes before and past the operation are never written. No bytes at all (a length of 0, NULL too) are
  * 6, after 2. */
@@ -347,7 +362,7 @@ struct brb_recorded brb_step_recorded(uint64_t *state, size_t state_numbers, uin
 
 /* A run of recorded operations in one call: what calls of brb_step_recorded do, one after another, from the first byte on. It
  * ends with the bytes, or with the first operation that is answered 1 (a number is malformed, or the bytes end inside the
- * operation) or 2 (a code above 9), which is the last one answered. Into `answers` goes what each call would answer:
+ * operation) or 2 (a code above 10), which is the last one answered. Into `answers` goes what each call would answer:
  * answers[2 * i] is the number and answers[2 * i + 1] the value of operation i, counted from 0. Any other refusal of an
  * operation, its own 6 for the room too, stands in its two numbers, changes nothing, and the batch goes on.
  * Answers 0 and how many operations were answered; or 7 where the state is not sound or its memory too short; else 6 where

@@ -12,13 +12,13 @@ const fn field(high: u32, low: u32) -> u64 {
 }
 
 /// The first part of the version, which grows where a host has to change.
-pub const VERSION_MAJOR: u64 = 2;
+pub const VERSION_MAJOR: u64 = 3;
 /// The second part of the version, which grows where something is added or an answer becomes another.
 pub const VERSION_MINOR: u64 = 0;
 /// The third part of the version.
 pub const VERSION_PATCH: u64 = 0;
 /// The version as text.
-pub const VERSION: &str = "2.0.0";
+pub const VERSION: &str = "3.0.0";
 
 /// Code of a reset.
 pub const CODE_RESET: u64 = 0;
@@ -40,6 +40,8 @@ pub const CODE_IALL: u64 = 7;
 pub const CODE_HALT: u64 = 8;
 /// Code of a resume, the exit from Debug state.
 pub const CODE_RESUME: u64 = 9;
+/// Code of a freeze: a counter overflowed.
+pub const CODE_FREEZE: u64 = 10;
 
 /// Done.
 pub const DONE: u64 = 0;
@@ -78,6 +80,8 @@ pub const REGISTER_BRBCR_EL1: u64 = 1;
 pub const REGISTER_BRBCR_EL2: u64 = 2;
 /// BRBFCR_EL1, the filter.
 pub const REGISTER_BRBFCR_EL1: u64 = 3;
+/// BRBTS_EL1, the time of the last freeze; it cannot be written.
+pub const REGISTER_BRBTS_EL1: u64 = 4;
 
 /// BRBINF of m, from 0 to 31.
 pub const fn register_brbinf(m: u64) -> u64 {
@@ -100,7 +104,7 @@ pub const fn brbidr0_el1(size: u64) -> u64 {
 }
 
 /// How many numbers a state has.
-pub const STATE_NUMBERS: usize = 10;
+pub const STATE_NUMBERS: usize = 11;
 /// Where a state has the current level.
 pub const STATE_LEVEL: usize = 0;
 /// Where a state has the buffer's size, 0 before the first reset.
@@ -121,6 +125,8 @@ pub const STATE_COUNT: usize = 7;
 pub const STATE_UNKNOWN: usize = 8;
 /// Where a state says that the processor is halted.
 pub const STATE_HALTED: usize = 9;
+/// Where a state has BRBTS_EL1.
+pub const STATE_BRBTS_EL1: usize = 10;
 
 /// How many numbers the records of a buffer of this size take.
 pub const fn room_numbers(size: usize) -> usize {
@@ -200,7 +206,7 @@ pub const fn p_sbrbe_is(n: u64) -> u64 {
 pub const P_EL3_RECORDING: u64 = bit(6);
 /// P: the traps to EL2 below are enabled.
 pub const P_FGTEN: u64 = bit(8);
-/// P: reads of records do not trap to EL2.
+/// P: reads of records and of BRBTS_EL1 do not trap to EL2.
 pub const P_NBRBDATA_READ: u64 = bit(9);
 /// P: reads of BRBCR_EL1 and BRBFCR_EL1 do not trap to EL2.
 pub const P_NBRBCTL_READ: u64 = bit(10);
@@ -225,9 +231,9 @@ pub const CONTROL_E2BRE: u64 = bit(1);
 pub const CONTROL_CC: u64 = bit(3);
 /// Mispredictions are shown, where both registers have it.
 pub const CONTROL_MPRED: u64 = bit(4);
-/// TS, two bits that are kept and have no effect.
+/// TS, which time a freeze keeps, two bits.
 pub const CONTROL_TS: u64 = field(6, 5);
-/// FZP, kept and without effect.
+/// FZP: an overflow of group 0 (BRBCR_EL1) or of group 1 (BRBCR_EL2) freezes.
 pub const CONTROL_FZP: u64 = bit(8);
 /// Exception returns from the level are recorded.
 pub const CONTROL_ERTN: u64 = bit(22);
@@ -235,6 +241,20 @@ pub const CONTROL_ERTN: u64 = bit(22);
 pub const CONTROL_EXCEPTION: u64 = bit(23);
 /// The bits of BRBCR_EL1 and BRBCR_EL2 that a write keeps.
 pub const CONTROL_MASK: u64 = 0xC0017B;
+
+/// BRBCR_EL1 or BRBCR_EL2 with this TS, from 0 to 3, and nothing else.
+pub const fn control_ts_is(n: u64) -> u64 {
+    n << 5
+}
+
+/// TS of both registers: the time of a freeze is 0. TS of BRBCR_EL2: that of BRBCR_EL1 decides.
+pub const TS_NONE: u64 = 0;
+/// TS: the time of a freeze is the physical count less the virtual offset.
+pub const TS_VIRTUAL: u64 = 1;
+/// TS: the time of a freeze is the physical count less the guest offset.
+pub const TS_GUEST: u64 = 2;
+/// TS: the time of a freeze is the physical count.
+pub const TS_PHYSICAL: u64 = 3;
 
 /// BRBFCR_EL1: nothing is recorded.
 pub const FILTER_PAUSED: u64 = bit(7);

@@ -1,8 +1,8 @@
 //! Operations by name.
 
 use crate::{
-    CODE_BRANCH, CODE_EXCEPTION, CODE_HALT, CODE_IALL, CODE_PLATFORM, CODE_READ, CODE_RESET, CODE_RESUME, CODE_RETURN,
-    CODE_WRITE,
+    CODE_BRANCH, CODE_EXCEPTION, CODE_FREEZE, CODE_HALT, CODE_IALL, CODE_PLATFORM, CODE_READ, CODE_RESET, CODE_RESUME,
+    CODE_RETURN, CODE_WRITE,
 };
 
 /// One operation: its code, the cycles passed since the previous operation, and its fields in order. Numbers beyond the
@@ -89,5 +89,26 @@ impl Operation {
     /// It is refused with [`REFUSED_HALTED`](crate::REFUSED_HALTED) where the processor is not halted.
     pub fn resume(cycles: u64, target: u64, level: u64) -> Operation {
         Operation { code: CODE_RESUME, cycles, fields: [target, level, 0, 0] }
+    }
+
+    /// A freeze: a counter of this group, 0 or 1, overflowed, and the processor's clock shows this count and these offsets. It
+    /// sets PAUSED and keeps the time in BRBTS_EL1, where the group's register has FZP, the level is not prohibited, the
+    /// processor is not halted and PAUSED is 0; it answers the same where it does not.
+    ///
+    /// ```
+    /// use brb::{Operation, Outcome, Recorder};
+    ///
+    /// let mut recorder = Recorder::new();
+    /// recorder.step(Operation::reset(8, true));
+    /// recorder.step(Operation::platform(0, brb::P_EL3_RECORDING));
+    /// let control = brb::CONTROL_FZP | brb::control_ts_is(brb::TS_VIRTUAL);
+    /// recorder.step(Operation::write(0, brb::REGISTER_BRBCR_EL1, control));
+    /// assert!(!recorder.step(Operation::freeze(40, 0, 1000, 1500, 0)).is_refusal());
+    /// assert_eq!(recorder.state()[brb::STATE_BRBFCR_EL1], brb::FILTER_PAUSED);
+    /// let time = recorder.read(0, brb::REGISTER_BRBTS_EL1);
+    /// assert_eq!(time.outcome(), Outcome::Done(1000u64.wrapping_sub(1500)));
+    /// ```
+    pub fn freeze(cycles: u64, group: u64, physical: u64, virtual_offset: u64, guest_offset: u64) -> Operation {
+        Operation { code: CODE_FREEZE, cycles, fields: [group, physical, virtual_offset, guest_offset] }
     }
 }

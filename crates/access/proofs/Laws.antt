@@ -75,13 +75,15 @@ ends-as-arm-says s u n = (
 -- What is undefined by itself, at every level and before every trap: a write of what cannot be written, and BRBCR_EL2 at EL1.
 pub undefined-accesses : (s : State)
     → (writeOutcome s 0 ≡ Undefined)
+    × (writeOutcome s 4 ≡ Undefined)
     × ((r : ℕ) → 32 ≤ r → r ≤ 127 → writeOutcome s r ≡ Undefined)
     × (s .level ≡ 1 → readOutcome s 2 ≡ Undefined)
     × (s .level ≡ 1 → writeOutcome s 2 ≡ Undefined)
 unfolding outcome readOutcome writeOutcome
 undefined-accesses s = (
   rw (or-true (eqb (s .level) 0)),
-  λ r low high. rw (le-leb 32 r low, le-leb r 127 high, ne-eqb r 0 (omega arith), or-true (eqb (s .level) 0)),
+  rw (or-true (eqb (s .level) 0)),
+  λ r low high. rw (le-leb 32 r low, le-leb r 127 high, ne-eqb r 0 (omega arith), ne-eqb r 4 (omega arith), or-true (eqb (s .level) 0)),
   λ e. rw e,
   λ e. rw e,
 )
@@ -89,6 +91,7 @@ undefined-accesses s = (
 -- Which n-bit each access looks at, by P's bits; reads and writes of control registers have one each.
 pub n-bits : (s : State)
     → ((m : ℕ) → m < 96 → nBit s false (32 + m) ≡ isSet 9 (s .p))
+    × (nBit s false 4 ≡ isSet 9 (s .p))
     × (nBit s false 0 ≡ isSet 12 (s .p))
     × (nBit s false 1 ≡ isSet 10 (s .p))
     × (nBit s false 3 ≡ isSet 10 (s .p))
@@ -97,6 +100,7 @@ pub n-bits : (s : State)
 unfolding nBit
 n-bits s = (
   λ m h. rw (le-leb 32 (32 + m) (omega arith), le-leb (32 + m) 127 (omega arith)),
+  refl,
   refl,
   refl,
   refl,
@@ -157,6 +161,16 @@ written-reads s list r q value r-low r-high q-low q-high = go r q r-low r-high q
     go (suc (suc (suc zero))) (suc (suc (suc zero))) a b c d = refl
     go (suc (suc (suc zero))) (suc (suc (suc (suc q)))) a b c d = absurd (omega arith)
     go (suc (suc (suc (suc r)))) (suc q) a b c d = absurd (omega arith)
+
+-- BRBTS_EL1 reads the time of the last freeze, and a performed write of another register leaves it.
+pub BRBTS-read : (s : State) (list : List Record) (r value : ℕ)
+    → (registerValue s list (meant s 4) ≡ s .brbts) × (registerWritten s r value .brbts ≡ s .brbts)
+unfolding registerValue registerWritten
+BRBTS-read s list r value = (go (isRedirected s), refl)
+  where
+    go : (t : Bool) → registerValue s list (cond (t && false) 2 4) ≡ s .brbts
+    go true = refl
+    go false = refl
 
 -- BRBIDR0_EL1 reads 0x5000 plus the size, which is at most 64.
 pub BRBIDR0-read : (s : State) (list : List Record) → s .size ≤ 64 → registerValue s list 0 ≡ 0x5000 + s .size

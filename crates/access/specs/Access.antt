@@ -1,5 +1,5 @@
 -- Accesses to registers, and BRB IALL: document 01, "Operations" (the registers) and "Access outcomes"; docs/MANUAL.md,
--- "Registers" and "Access outcomes"; the access pseudocode of BRBCR_EL1, BRBCR_EL2, BRBINF<n>_EL1 and BRBIDR0_EL1.
+-- "Registers" and "Access outcomes"; document 02, Six; the access pseudocode of BRBCR_EL1, BRBCR_EL2, BRBINF<n>_EL1 and BRBIDR0_EL1.
 use Prim.Native.Nat.{ℕ, _+_, _*_, _/_, _%_}
 use mathlib.Core.Bool.{Bool, true, false, cond, _&&_, _||_, not}
 use lib.Dec.{eqb, leb}
@@ -20,13 +20,13 @@ isRecordRegister r = leb 32 r && leb r 127
 
 -- The registers that there are: those that `registerValue` names first, and those of records.
 abbrev pub isRegister : ℕ → Bool
-isRegister r = leb r 3 || isRecordRegister r
+isRegister r = leb r 4 || isRecordRegister r
 
--- The n-bit of P that an access to the register looks at: a record's, BRBIDR0_EL1's, or the control registers', which
--- reading and writing have apart. (BRBCR_EL2 is undefined at EL1, where alone an n-bit counts.)
+-- The n-bit of P that an access to the register looks at: a record's, which BRBTS_EL1 has too, BRBIDR0_EL1's, or the control
+-- registers', which reading and writing have apart. (BRBCR_EL2 is undefined at EL1, where alone an n-bit counts.)
 unfoldable pub nBit : State → Bool → ℕ → Bool
 nBit s writing r =
-    cond (isRecordRegister r) (nBRBDATA s) (cond (eqb r 0) (nBRBIDR s) (cond writing (nBRBCTLWrite s) (nBRBCTLRead s)))
+    cond (isRecordRegister r || eqb r 4) (nBRBDATA s) (cond (eqb r 0) (nBRBIDR s) (cond writing (nBRBCTLWrite s) (nBRBCTLRead s)))
 
 -- An access traps to EL2: at EL1, with EL2 enabled and its traps on (FGTEn), where the n-bit is 0.
 unfoldable pub trapped2 : State → Bool → Bool
@@ -52,9 +52,13 @@ undefinedAtEL1 s r = eqb (s .level) 1 && eqb r 2
 unfoldable pub readOutcome : State → ℕ → Answer
 readOutcome s r = outcome s (undefinedAtEL1 s r) (nBit s false r)
 
--- How a write ends. BRBIDR0_EL1 and the registers of records cannot be written: that is undefined at every level.
+-- The registers that cannot be written: BRBIDR0_EL1, BRBTS_EL1 (house) and those of records.
+abbrev pub readOnly : ℕ → Bool
+readOnly r = eqb r 0 || eqb r 4 || isRecordRegister r
+
+-- How a write ends. To write a register that cannot be written is undefined at every level.
 unfoldable pub writeOutcome : State → ℕ → Answer
-writeOutcome s r = outcome s (eqb r 0 || isRecordRegister r || undefinedAtEL1 s r) (nBit s true r)
+writeOutcome s r = outcome s (readOnly r || undefinedAtEL1 s r) (nBit s true r)
 
 -- How BRB IALL ends: as an access that has an n-bit of its own and is never undefined but at EL0.
 unfoldable pub iallOutcome : State → Answer
@@ -79,11 +83,12 @@ shownNumber s list r =
 abbrev pub BRBIDR0 : State → ℕ
 BRBIDR0 s = put 15 12 5 + put 11 8 0 + put 7 0 (s .size)
 
--- What a performed read of a register shows: 0 is BRBIDR0_EL1, 1 BRBCR_EL1, 2 BRBCR_EL2, 3 BRBFCR_EL1.
+-- What a performed read of a register shows: 0 is BRBIDR0_EL1, 1 BRBCR_EL1, 2 BRBCR_EL2, 3 BRBFCR_EL1, 4 BRBTS_EL1.
 unfoldable pub registerValue : State → List Record → ℕ → ℕ
 registerValue s list r =
     cond (eqb r 0) (BRBIDR0 s)
-    (cond (eqb r 1) (s .brbcr1) (cond (eqb r 2) (s .brbcr2) (cond (eqb r 3) (s .brbfcr) (shownNumber s list r))))
+    (cond (eqb r 1) (s .brbcr1)
+    (cond (eqb r 2) (s .brbcr2) (cond (eqb r 3) (s .brbfcr) (cond (eqb r 4) (s .brbts) (shownNumber s list r)))))
 
 -- The state after a performed write of a register, which keeps only the register's own bits.
 unfoldable pub registerWritten : State → ℕ → ℕ → State

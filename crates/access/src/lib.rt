@@ -1,8 +1,8 @@
-// Accesses to registers and BRB IALL (document 01, "Access outcomes"; docs/MANUAL.md, the same).
+// Accesses to registers and BRB IALL (document 01, "Access outcomes"; document 02, Six; docs/MANUAL.md, "Access outcomes").
 ghost use mathlib.Core.Path.{_≡_};
 ghost use mathlib.Core.Bool.{true, false};
 ghost use Rattle.room.specs.Room.{records};
-ghost use Rattle.access.specs.Access.{isRecordRegister, isRegister, nBit, trapped2, trapped3, outcome, readOutcome, writeOutcome, iallOutcome, meant, shownNumber, BRBIDR0, registerValue, registerWritten};
+ghost use Rattle.access.specs.Access.{isRecordRegister, isRegister, nBit, trapped2, trapped3, outcome, readOutcome, readOnly, writeOutcome, iallOutcome, meant, shownNumber, BRBIDR0, registerValue, registerWritten};
 use answer::Answer;
 use bits::pick;
 use bits::pick_bool;
@@ -46,7 +46,7 @@ pub fn is_register(r: u64) -> bool
     ensures { λ x. ⌜ x ≡ isRegister r ⌝ }
 {
     let record = is_record_register(r);
-    (r <= 3) | record
+    (r <= 4) | record
 }
 
 // The n-bit of P that an access to the register looks at.
@@ -59,7 +59,8 @@ fn n_bit(s: State, writing: bool, r: u64) -> bool
         s.p / NBRBCTL_READ % 2 == 1,
     );
     let setting = pick_bool(r == 0, s.p / NBRBIDR % 2 == 1, control);
-    pick_bool(is_record_register(r), s.p / NBRBDATA % 2 == 1, setting)
+    let record = is_record_register(r);
+    pick_bool(record | (r == 4), s.p / NBRBDATA % 2 == 1, setting)
 }
 
 fn trapped2(s: State, nbit: bool) -> bool
@@ -101,12 +102,19 @@ pub fn read_outcome(s: State, r: u64) -> Answer
     access_outcome(s, (s.level == 1) & (r == 2), nbit)
 }
 
+// A register that cannot be written.
+fn read_only(r: u64) -> bool
+    ensures { λ x. ⌜ x ≡ readOnly r ⌝ }
+{
+    let record = is_record_register(r);
+    (r == 0) | (r == 4) | record
+}
+
 pub fn write_outcome(s: State, r: u64) -> Answer
     ensures { λ x. ⌜ x ≡ writeOutcome s r ⌝ }
 {
     let nbit = n_bit(s, true, r);
-    let record = is_record_register(r);
-    let undefined = (r == 0) | record | (s.level == 1) & (r == 2);
+    let undefined = read_only(r) | (s.level == 1) & (r == 2);
     access_outcome(s, undefined, nbit)
 }
 
@@ -144,7 +152,8 @@ pub fn register_value(s: State, room: &[u64], r: u64) -> u64
     ensures { λ x. ⌜ x ≡ registerValue s (records (s .size) (now (room .entry))) r ⌝ }
 {
     let shown = shown_number(s, room, r);
-    let after2 = pick(r == 3, s.brbfcr, shown);
+    let after3 = pick(r == 4, s.brbts, shown);
+    let after2 = pick(r == 3, s.brbfcr, after3);
     let after1 = pick(r == 2, s.brbcr2, after2);
     let after0 = pick(r == 1, s.brbcr1, after1);
     pick(r == 0, brbidr0(s), after0)

@@ -4,7 +4,7 @@ use Prim.Native.Nat.{ℕ, _+_, _*_, _-_, _^_, _/_, _%_}
 use mathlib.Core.Bool.{Bool, false, _||_}
 use mathlib.Core.List.{List, [], _∷_}
 use lib.Dec.{eqb}
-use lib.Bits.{bitAnd}
+use lib.Bits.{bitAnd, bitOr}
 
 -- Bit k of x: 0 or 1.
 abbrev pub bit : ℕ → ℕ → ℕ
@@ -21,6 +21,10 @@ part hi lo x = x / 2 ^ lo % 2 ^ (hi - lo + 1)
 -- x as the field at bits hi:lo of a number that is 0 elsewhere. Bits of x that the field has no place for are dropped.
 abbrev pub put : ℕ → ℕ → ℕ → ℕ
 put hi lo x = x % 2 ^ (hi - lo + 1) * 2 ^ lo
+
+-- x with bit k set, whatever it was.
+abbrev pub withBit : ℕ → ℕ → ℕ
+withBit k x = bitOr x (2 ^ k)
 
 -- x has no bit outside the mask.
 abbrev pub within : ℕ → ℕ → Bool

@@ -17,7 +17,7 @@ use Rattle.event.specs.declared.Event.{Event}
 use Rattle.event.specs.Event.{recordOf, becomesRecord, eventEffect}
 use Rattle.access.specs.Access.{iallOutcome}
 use Rattle.operation.specs.declared.Operation.{Operation}
-use Rattle.operation.specs.declared.Operation.the-variants.{Reset, Branch, Exception, Return, Platform, Read, Write, Iall, Halt, Resume, Unknown}
+use Rattle.operation.specs.declared.Operation.the-variants.{Reset, Branch, Exception, Return, Platform, Read, Write, Iall, Halt, Resume, Freeze, Unknown}
 use Rattle.operation.specs.Operation.{codeOf}
 use Rattle.change.specs.Change.{effectOf, runningAfter}
 
@@ -41,6 +41,7 @@ module _ (P : Effect → Type 0) (s : State) (r : Running) (keep : P Keep) (clea
   of-effect Iall h = one-of (isDone (iallOutcome s)) clear keep
   of-effect (Halt source) h = of-event _ _
   of-effect (Resume target level) h = of-event _ _
+  of-effect (Freeze group physical virtualOffset guestOffset) h = keep
   of-effect Unknown h = keep
 
 -- R_KVRBB: once a record has taken the count, it is known again and counts the cycles since then.

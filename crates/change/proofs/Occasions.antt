@@ -10,9 +10,10 @@ use Rattle.state.specs.declared.State.{State}
 use Rattle.state.specs.Named.{counting, PAUSED, side}
 use Rattle.region.specs.Region.{prohibited}
 use Rattle.answer.specs.Answer.{isDone}
+use Rattle.freeze.proofs.Laws.{no-occasion}
 use Rattle.access.specs.Access.{iallOutcome}
 use Rattle.operation.specs.declared.Operation.{Operation}
-use Rattle.operation.specs.declared.Operation.the-variants.{Reset, Branch, Exception, Return, Platform, Read, Write, Iall, Halt, Resume, Unknown}
+use Rattle.operation.specs.declared.Operation.the-variants.{Reset, Branch, Exception, Return, Platform, Read, Write, Iall, Halt, Resume, Freeze, Unknown}
 use Rattle.operation.specs.Operation.{codeOf}
 use Rattle.operation.specs.Clause.{changed}
 use Rattle.change.specs.Change.{turnedCountingOn, clearedPAUSED, performedIALL, occasion}
@@ -102,6 +103,13 @@ module _ (s : State) where
       → Occasion s o
   by-level o c p k = by-lines o began-prohibited (unturned o c) (uncleared o p) (λ h. never (cc (rw k at h)))
 
+  -- A freeze is none by itself, whether or not it freezes.
+  pub freeze-occasion : (group physical virtualOffset guestOffset : ℕ)
+      → occasion s (Freeze group physical virtualOffset guestOffset) ≡ prohibited s (side s)
+  unfolding changed
+  freeze-occasion group physical virtualOffset guestOffset =
+      sym (lines s (Freeze group physical virtualOffset guestOffset)) ∙ rw (no-occasion s group physical virtualOffset guestOffset, or-false level)
+
   -- There is no other. (A reset makes the next count unknown by itself.)
   pub which-occasion : (o : Operation) → eqb (codeOf o) 0 ≡ false → occasion s o ≡ true → Occasion s o
   unfolding changed
@@ -116,6 +124,8 @@ module _ (s : State) where
   which-occasion Iall k = by-lines _ began-prohibited (unturned Iall refl) (uncleared Iall refl) IALL-performed
   which-occasion (Halt source) k = by-level _ refl refl refl
   which-occasion (Resume target level) k = by-level _ refl refl refl
+  which-occasion (Freeze group physical virtualOffset guestOffset) k =
+      λ h. began-prohibited (sym (freeze-occasion group physical virtualOffset guestOffset) ∙ h)
   which-occasion Unknown k = by-level _ refl refl refl
 
   -- Where the operation sets nothing and is no performed BRB IALL, only its level can be one.

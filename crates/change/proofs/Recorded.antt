@@ -25,7 +25,7 @@ use Rattle.event.specs.Event.{controlled, recordOf, becomesRecord, eventEffect}
 use Rattle.event.proofs.Laws.{becomes-exactly}
 use Rattle.access.specs.Access.{iallOutcome}
 use Rattle.operation.specs.declared.Operation.{Operation}
-use Rattle.operation.specs.declared.Operation.the-variants.{Reset, Branch, Exception, Return, Platform, Read, Write, Iall, Halt, Resume, Unknown}
+use Rattle.operation.specs.declared.Operation.the-variants.{Reset, Branch, Exception, Return, Platform, Read, Write, Iall, Halt, Resume, Freeze, Unknown}
 use Rattle.operation.specs.Refusal.{outsideList, wrongHalted, wrongLevel}
 use Rattle.operation.proofs.Laws.{Accepts}
 use Rattle.change.specs.Change.{effectOf}
@@ -159,6 +159,7 @@ made s (Halt source) r a p =
     let b = becomes s r _ _ p in halt (b .not-paused) (left-open _ (in-Debug-state s) (b .not-both))
 made s (Resume target level) r a p =
     let b = becomes s r _ _ p in resume (b .not-paused) (right-open (from-Debug-state s target level a) (b .not-both))
+made s (Freeze group physical virtualOffset guestOffset) r a p = never (cc (its-record p .1))
 made s Unknown r a p = never (cc (its-record p .1))
 
 making : (s : State) {o : Operation} (r : Running) → Recorded s o → Pushes (effectOf s o r)

@@ -34,7 +34,8 @@ performedIALL s o = eqb (codeOf o) 7 && isDone (iallOutcome s)
 
 -- An operation on which the next count becomes unknown, by the state before it. The lines are R_MJDLC's third to sixth: it began
 -- at a prohibited level or in Debug state (house: R_MJDLC speaks of leaving a prohibited region); it turned counting on; it
--- cleared PAUSED; it was a BRB IALL that was executed (document 02, One, adds this line to document 01's three).
+-- cleared PAUSED; it was a BRB IALL that was executed (document 02, One, adds this line to document 01's three). A freeze is none
+-- by itself: it sets PAUSED.
 unfoldable pub occasion : State → Operation → Bool
 occasion s o =
     prohibited s (side s)

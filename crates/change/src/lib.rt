@@ -1,5 +1,5 @@
 // What an accepted operation does: its clause, the running count, and what the two come to (document 01, "Operations", "Which
-// events become records", "Access outcomes" and "Cycles"; document 02, One and Five).
+// events become records", "Access outcomes" and "Cycles"; document 02, One, Five and Six).
 ghost use mathlib.Core.Path.{_≡_};
 ghost use mathlib.Core.Bool.{true, false, cond, _||_};
 ghost use Rattle.answer.specs.Answer.{isDone};
@@ -7,6 +7,7 @@ ghost use Rattle.state.specs.Named.{debugState, side, atLevel, inDebugState, re
 ghost use Rattle.access.specs.Access.{writeOutcome, iallOutcome, registerWritten, meant};
 ghost use Rattle.event.specs.Event.{controlled, eventFrom, recordOf, becomesRecord};
 ghost use Rattle.filter.specs.Filter.{exceptionReturn, debugHalt, debugExit, passesFilter};
+ghost use Rattle.freeze.specs.Freeze.{overflowed};
 ghost use Rattle.operation.specs.Clause.{changed};
 ghost use Rattle.change.specs.Change.{turnedCountingOn, clearedPAUSED, performedIALL, passed, effectOf, answerOf, runningAfter, decided};
 use access::iall_outcome;
@@ -22,6 +23,7 @@ use event::exception_controlled;
 use event::record_of;
 use event::return_controlled;
 use filter::BranchType;
+use freeze::overflowed;
 use operation::Operation;
 use region::prohibited;
 use room::Effect;
@@ -147,6 +149,14 @@ fn resume_clause(s: State, target: u64, level: u64) -> Clause
     event_clause(s.resumed_at(level), true, event)
 }
 
+// A freeze is no event and no occasion, whether or not it freezes.
+fn freeze_clause(s: State, group: u64, physical: u64, offset: u64, guest: u64) -> Clause
+    ensures { λ x. ⌜ x ≡ record { sets = overflowed s group physical offset guest; occasion = false; wanted = false; event = eventFrom s 0 0 0 0 0; otherwise = Effect.Keep; answer = Answer.Done } ⌝ }
+{
+    let after = overflowed(s, group, physical, offset, guest);
+    plain_clause(s, after, false, Effect::Keep, Answer::Done)
+}
+
 // What a read answers.
 fn read_answer(s: State, room: &[u64], register: u64) -> Answer
     ensures { λ r. ⌜ r ≡ answerOf s (Operation.Read register) (now (room .entry)) ⌝ }
@@ -262,6 +272,12 @@ fn does(s: State, room: &[u64], o: Operation) -> Clause
             target,
             target_level,
         } => resume_clause(s, target, target_level),
+        Operation::Freeze {
+            group,
+            physical,
+            virtual_offset,
+            guest_offset,
+        } => freeze_clause(s, group, physical, virtual_offset, guest_offset),
         Operation::Unknown => plain_clause(s, s, false, Effect::Keep, Answer::Done),
     }
 }

@@ -136,6 +136,7 @@ fn say_kind(code: u64) {
         6 => say(b"a write"),
         8 => say(b"a halt"),
         9 => say(b"a resume"),
+        10 => say(b"a freeze"),
         _ => say(b"a BRB IALL"),
     }
 }

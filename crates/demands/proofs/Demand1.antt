@@ -18,7 +18,7 @@ use Rattle.answer.specs.declared.Answer.the-variants.{Done, Value, Undefined, T
 use Rattle.answer.specs.Answer.{returned, isDone}
 use Rattle.access.specs.Access.{trapped2, trapped3, outcome, readOutcome, writeOutcome, iallOutcome}
 use Rattle.operation.specs.declared.Operation.{Operation}
-use Rattle.operation.specs.declared.Operation.the-variants.{Reset, Branch, Exception, Return, Platform, Read, Write, Iall, Halt, Resume, Unknown}
+use Rattle.operation.specs.declared.Operation.the-variants.{Reset, Branch, Exception, Return, Platform, Read, Write, Iall, Halt, Resume, Freeze, Unknown}
 use Rattle.operation.specs.Operation.{operationOf}
 use Rattle.operation.specs.Refusal.{firstThat, table, refusalOf}
 use Rattle.change.specs.Change.{answerOf}
@@ -78,6 +78,7 @@ accepted-number s (Write r value) room = access-number s _ _
 accepted-number s Iall room = access-number s _ _
 accepted-number s (Halt source) room = done
 accepted-number s (Resume target level) room = done
+accepted-number s (Freeze group physical virtualOffset guestOffset) room = done
 accepted-number s Unknown room = done
 
 -- Which number a step answers: that of the first line of the table whose condition holds, else an accepted operation's.

@@ -26,7 +26,7 @@ use Rattle.answer.specs.declared.Answer.the-variants.{Done, Value}
 use Rattle.answer.specs.Answer.{isDone}
 use Rattle.access.specs.Access.{readOutcome, iallOutcome, meant, shownRecord, shownNumber, registerValue}
 use Rattle.operation.specs.declared.Operation.{Operation}
-use Rattle.operation.specs.declared.Operation.the-variants.{Reset, Branch, Exception, Return, Platform, Read, Write, Iall, Halt, Resume, Unknown}
+use Rattle.operation.specs.declared.Operation.the-variants.{Reset, Branch, Exception, Return, Platform, Read, Write, Iall, Halt, Resume, Freeze, Unknown}
 use Rattle.operation.specs.Refusal.{notReset, refusalOf}
 use Rattle.operation.specs.Clause.{changed}
 use Rattle.operation.proofs.Size.{Resets, is-reset, no-reset, resets, size-kept}
@@ -129,6 +129,7 @@ pushed-by s Iall r new h = go (isDone (iallOutcome s)) h
     go false p = never (cc)
 pushed-by s (Halt source) r new h = halt
 pushed-by s (Resume target level) r new h = resume
+pushed-by s (Freeze group physical virtualOffset guestOffset) r new h = never (cc)
 pushed-by s Unknown r new h = never (cc)
 
 event-sized : (s : State) {o : Operation} → IsEvent o → notReset s o ≡ false → 1 ≤ s .size
@@ -168,7 +169,7 @@ newest s o cycles room h =
 record-register : (s : State) (list : List Record) (r : ℕ) → 32 ≤ r → registerValue s list r ≡ shownNumber s list r
 unfolding registerValue
 record-register s list r h =
-    rw (ne-eqb r 0 (omega arith), ne-eqb r 1 (omega arith), ne-eqb r 2 (omega arith), ne-eqb r 3 (omega arith))
+    rw (ne-eqb r 0 (omega arith), ne-eqb r 1 (omega arith), ne-eqb r 2 (omega arith), ne-eqb r 3 (omega arith), ne-eqb r 4 (omega arith))
 
 pub read-shows : (s : State) (list : List Record) (m : ℕ) → m < 32
     → (registerValue s list (32 + m) ≡ numbered (m + 32 * BANK s) list .inf)

@@ -1,4 +1,5 @@
 pub mod BankRead
 pub mod Demand1
 pub mod Demand2
+pub mod Freeze
 pub mod Unique

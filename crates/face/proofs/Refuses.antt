@@ -157,7 +157,8 @@ known-code (suc (suc (suc (suc (suc (suc zero)))))) a b c d h = refl
 known-code (suc (suc (suc (suc (suc (suc (suc zero))))))) a b c d h = refl
 known-code (suc (suc (suc (suc (suc (suc (suc (suc zero)))))))) a b c d h = refl
 known-code (suc (suc (suc (suc (suc (suc (suc (suc (suc zero))))))))) a b c d h = refl
-known-code (suc (suc (suc (suc (suc (suc (suc (suc (suc (suc code)))))))))) a b c d h = absurd (omega arith)
+known-code (suc (suc (suc (suc (suc (suc (suc (suc (suc (suc zero)))))))))) a b c d h = refl
+known-code (suc (suc (suc (suc (suc (suc (suc (suc (suc (suc (suc code))))))))))) a b c d h = absurd (omega arith)
 
 -- What answers by lines of which the first does not hold answers by the others.
 behind : {n m : ℕ} {lines : Lines} → AnswersBy ((n, false) ∷ lines) m → AnswersBy lines m

@@ -8,3 +8,4 @@ pub mod Unknown
 pub mod ClosedRun
 pub mod Sound
 pub mod Summed
+pub mod Frozen

@@ -1,26 +1,28 @@
 -- Soundness is kept: from a sound state every operation leads to a sound state. So refusal 7 is never given in a run from one.
-use Prim.Native.Nat.{ℕ, zero, suc, _+_, _/_, _≤_, min}
+use Prim.Native.Nat.{ℕ, zero, suc, _+_, _*_, _/_, _%_, _≤_, min}
 use native.Mathlib.Nat.{le-refl}
 use native.Mathlib.Omega.{arith}
-use mathlib.Core.Path.{_≡_, refl, ap, _∙_}
+use mathlib.Core.Path.{_≡_, refl, sym, ap, _∙_}
 use mathlib.Core.Bool.{Bool, true, false, cond, not}
 use mathlib.Core.Logic.{_≢_, _⊎_, inl, inr}
 use mathlib.Core.List.{List, [], _∷_}
-use lib.Bits.{bitAnd, and-step}
+use lib.Bits.{bitAnd, and-step, and-shr, and-mod, and-high, and-block}
 use lib.Dec.{eqb, leb, ltb}
 use lib.ListN.{length}
 use borrow.Author.Tests.{le-leb, le-ltb, ltb-false, eq-eqb, eqb-true}
-use Rattle.bits.specs.Bits.{within, oneOf}
+use Rattle.bits.specs.Bits.{withBit, within, oneOf}
+use Rattle.bits.proofs.WithBit.{is-set, others-stay}
 use Rattle.state.specs.declared.State.{State}
 use Rattle.state.specs.declared.Running.{Running}
-use Rattle.state.specs.Named.{sizes, atLevel, resumedAt, withPlatform, withRunning}
+use Rattle.state.specs.Named.{sizes, atLevel, resumedAt, frozenAt, withPlatform, withRunning}
 use Rattle.state.specs.Sound.{platformMask, controlMask, filterMask, cap, unavailable, sound}
 use Rattle.room.specs.declared.Effect.{Effect}
 use Rattle.room.specs.declared.Effect.the-variants.{Keep, Push, Clear, ResetTo}
 use Rattle.answer.specs.Answer.{isDone}
+use Rattle.freeze.specs.Freeze.{freezes, overflowed}
 use Rattle.access.specs.Access.{writeOutcome, meant, registerWritten}
 use Rattle.operation.specs.declared.Operation.{Operation}
-use Rattle.operation.specs.declared.Operation.the-variants.{Reset, Branch, Exception, Return, Platform, Read, Write, Iall, Halt, Resume, Unknown}
+use Rattle.operation.specs.declared.Operation.the-variants.{Reset, Branch, Exception, Return, Platform, Read, Write, Iall, Halt, Resume, Freeze, Unknown}
 use Rattle.room.specs.Room.{needed}
 use Rattle.operation.specs.Refusal.{unknownCode, notReset, outsideList, wrongHalted, wrongLevel, roomTooShort, firstThat, refusalOf}
 use Rattle.bits.proofs.Cases.{either, never}
@@ -90,8 +92,26 @@ written s true k value t =
     search
 written s false k value t = t
 
+-- BRBFCR_EL1 has no bit outside its mask, of whose lowest eight bits only PAUSED is one: so it has none with PAUSED set either.
+paused-within : (x : ℕ) → within filterMask x ≡ true → within filterMask (withBit 7 x) ≡ true
+paused-within x h =
+    let same : bitAnd x filterMask ≡ x = eqb-true (bitAnd x filterMask) x h in
+    let high : bitAnd (x / 256) (filterMask / 256) ≡ x / 256 = sym (and-shr x filterMask 8) ∙ ap (λ (n : ℕ). n / 256) same in
+    let low : x % 256 / 128 % 2 * 128 ≡ x % 256 = sym (and-high (x % 256) 1 7) ∙ sym (and-mod x filterMask 8) ∙ ap (λ (n : ℕ). n % 256) same in
+    let y : ℕ = withBit 7 x in
+    let (above, below) = others-stay x in
+    let is : y / 128 % 2 ≡ 1 = eqb-true (y / 128 % 2) 1 (is-set x) in
+    let least : y % 256 ≡ 128 = omega arith in
+    let whole : y ≡ x / 256 * 256 + 128 = omega arith in
+    eq-eqb _ _ (ap (λ (n : ℕ). bitAnd n filterMask) whole ∙ and-block 8 (x / 256) (filterMask / 256) 128 128 (omega arith) (omega arith) ∙ ap (λ (n : ℕ). n * 256 + 128) high ∙ sym whole)
+
+frozen : (s : State) (f : Bool) (time : ℕ) → Set s → Set (cond f (frozenAt time s) s)
+unfolding unavailable
+frozen s true time t = let paused = paused-within (s .brbfcr) (t .brbfcr) in search
+frozen s false time t = t
+
 set-after : {s : State} {room : ℕ} (o : Operation) → Accepts s o room → Set s → Set (changed s o)
-unfolding changed outsideList wrongLevel unavailable
+unfolding changed outsideList wrongLevel unavailable overflowed
 set-after (Reset size v1p1) a t =
     let listed : oneOf (0 ∷ sizes) size ≡ true = sized size (search each) in
     let flag : leb v1p1 1 ≡ true = le-leb v1p1 1 (ltb-false 1 v1p1 (search each)) in
@@ -108,6 +128,7 @@ set-after {s} (Write r value) a t = written s (isDone (writeOutcome s r)) (meant
 set-after Iall a t = t
 set-after {s} (Halt source) a t = search
 set-after {s} (Resume target level) a t = resumed s level (search each) (search each) t
+set-after {s} (Freeze group physical virtualOffset guestOffset) a t = frozen s (freezes s group) _ t
 set-after Unknown a t = t
 
 counts-passed : (s : State) (o : Operation) (cycles : ℕ) → Counts (s .running) → Counts (passed s o cycles)

@@ -6,9 +6,10 @@ use lib.Dec.{eqb}
 use Rattle.bits.proofs.Cases.{never}
 use Rattle.answer.specs.Answer.{isDone}
 use Rattle.state.specs.declared.State.{State}
+use Rattle.freeze.proofs.Laws.{size-stays}
 use Rattle.access.specs.Access.{writeOutcome, meant, registerWritten}
 use Rattle.operation.specs.declared.Operation.{Operation}
-use Rattle.operation.specs.declared.Operation.the-variants.{Reset, Branch, Exception, Return, Platform, Read, Write, Iall, Halt, Resume, Unknown}
+use Rattle.operation.specs.declared.Operation.the-variants.{Reset, Branch, Exception, Return, Platform, Read, Write, Iall, Halt, Resume, Freeze, Unknown}
 use Rattle.operation.specs.Operation.{codeOf}
 use Rattle.operation.specs.Clause.{changed}
 
@@ -28,6 +29,7 @@ resets (Write r value) = no-reset refl
 resets Iall = no-reset refl
 resets (Halt source) = no-reset refl
 resets (Resume target level) = no-reset refl
+resets (Freeze group physical virtualOffset guestOffset) = no-reset refl
 resets Unknown = no-reset refl
 
 pub size-kept : (s : State) (o : Operation) → eqb (codeOf o) 0 ≡ false → changed s o .size ≡ s .size
@@ -46,4 +48,5 @@ size-kept s (Write r value) h = go (isDone (writeOutcome s r))
 size-kept s Iall h = refl
 size-kept s (Halt source) h = refl
 size-kept s (Resume target level) h = refl
+size-kept s (Freeze group physical virtualOffset guestOffset) h = size-stays s group physical virtualOffset guestOffset
 size-kept s Unknown h = refl

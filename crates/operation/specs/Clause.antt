@@ -1,5 +1,5 @@
 -- What an accepted operation does, one clause an operation: document 01, "Operations", "Which events become records" and
--- "Access outcomes"; document 02, Five; docs/MANUAL.md, "Operations".
+-- "Access outcomes"; document 02, Five and Six; docs/MANUAL.md, "Operations".
 use mathlib.Core.Bool.{true, cond}
 use mathlib.Core.List.{List}
 use Rattle.answer.specs.declared.Answer.{Answer}
@@ -13,9 +13,10 @@ use Rattle.room.specs.declared.Effect.{Effect}
 use Rattle.room.specs.declared.Effect.the-variants.{Keep, Clear, ResetTo}
 use Rattle.filter.specs.Filter.{exceptionReturn, debugHalt, debugExit, passesFilter}
 use Rattle.event.specs.Event.{controlled, eventFrom, eventEffect}
+use Rattle.freeze.specs.Freeze.{overflowed}
 use Rattle.access.specs.Access.{readOutcome, writeOutcome, iallOutcome, meant, registerValue, registerWritten}
 use Rattle.operation.specs.declared.Operation.{Operation}
-use Rattle.operation.specs.declared.Operation.the-variants.{Reset, Branch, Exception, Return, Platform, Read, Write, Iall, Halt, Resume, Unknown}
+use Rattle.operation.specs.declared.Operation.the-variants.{Reset, Branch, Exception, Return, Platform, Read, Write, Iall, Halt, Resume, Freeze, Unknown}
 
 -- What a clause says: the state once the operation has set what it sets, which is not the running count, but for a reset; what
 -- it asks of the records, by the running count with the operation's cycles in it; and what it answers, by the records.
@@ -46,6 +47,7 @@ always answer list = answer
 --   register, a performed BRB IALL clears the records.
 --   A halt goes from its level to Debug state (R_LLCTG), a resume from Debug state to its level (R_RBCFP): neither the filter nor
 --   a control is asked, and the side in Debug state has no address.
+--   A freeze sets PAUSED and BRBTS_EL1 where its group's overflow freezes, else nothing (document 02, Six).
 --   (Refusal 2 keeps an unknown code away.)
 abbrev pub does : State → Operation → Clause
 does s (Reset size v1p1) = clause (afterReset size v1p1) (λ running. ResetTo size) (always Done)
@@ -63,6 +65,8 @@ does s (Write r value) =
 does s Iall = clause s (λ running. cond (isDone (iallOutcome s)) Clear Keep) (always (iallOutcome s))
 does s (Halt source) = clause (inDebugState s) (eventEffect s true (eventFrom s debugHalt 0 debugState source 0)) (always Done)
 does s (Resume target level) = clause (resumedAt level s) (eventEffect s true (eventFrom s debugExit 0 level 0 target)) (always Done)
+does s (Freeze group physical virtualOffset guestOffset) =
+    clause (overflowed s group physical virtualOffset guestOffset) nothing (always Done)
 does s Unknown = clause s nothing (always Done)
 
 -- The state once the operation has set what it sets.

@@ -1,5 +1,5 @@
 -- Which operations are refused: document 01, "Refusal numbers, in order of checking", each line of its table as a condition;
--- document 02, Five; docs/MANUAL.md, "Refusals". (Refusal 1 is the reader's of recordings.)
+-- document 02, Five and Six; docs/MANUAL.md, "Refusals". (Refusal 1 is the reader's of recordings.)
 use Prim.Native.Nat.{ℕ}
 use mathlib.Core.Bool.{Bool, false, cond, _&&_, _||_, not}
 use mathlib.Core.List.{List, [], _∷_}
@@ -14,7 +14,7 @@ use Rattle.access.specs.Access.{isRegister}
 use Rattle.operation.specs.Operation.{lastCode, codeOf}
 use Rattle.operation.specs.Clause.{changed}
 use Rattle.operation.specs.declared.Operation.{Operation}
-use Rattle.operation.specs.declared.Operation.the-variants.{Reset, Branch, Exception, Return, Platform, Read, Write, Iall, Halt, Resume, Unknown}
+use Rattle.operation.specs.declared.Operation.the-variants.{Reset, Branch, Exception, Return, Platform, Read, Write, Iall, Halt, Resume, Freeze, Unknown}
 
 -- Refusal 2: no operation has the code.
 unfoldable pub unknownCode : Operation → Bool
@@ -24,8 +24,8 @@ unknownCode o = ltb lastCode (codeOf o)
 unfoldable pub notReset : State → Operation → Bool
 notReset s o = eqb (s .size) 0 && not (eqb (codeOf o) 0)
 
--- Refusal 4: a field of the operation is not one of those that it can be: a size, a flag, a type, a level, a register, P.
--- Addresses, a written value and cycles can be any number. (A count encoding outside its list is `Count.decoded`'s.)
+-- Refusal 4: a field of the operation is not one of those that it can be: a size, a flag, a type, a level, a register, P, a
+-- group. Addresses, a written value, a count, its offsets and cycles can be any number. (A count encoding outside its list is `Count.decoded`'s.)
 unfoldable pub outsideList : Operation → Bool
 outsideList (Reset size v1p1) = not (oneOf sizes size) || ltb 1 v1p1
 outsideList (Branch kind mispredicted source target) = not (oneOf branchTypes kind) || ltb 1 mispredicted
@@ -37,6 +37,7 @@ outsideList (Write r value) = not (isRegister r)
 outsideList Iall = false
 outsideList (Halt source) = false
 outsideList (Resume target level) = ltb 3 level
+outsideList (Freeze group physical virtualOffset guestOffset) = ltb 1 group
 outsideList Unknown = false
 
 -- Refusal 8: while the processor is halted nothing runs, so that no branch, exception, return or second halt happens (codes 1, 2,
@@ -57,6 +58,7 @@ wrongLevel s (Write r value) = false
 wrongLevel s Iall = false
 wrongLevel s (Halt source) = false
 wrongLevel s (Resume target level) = unavailable s level
+wrongLevel s (Freeze group physical virtualOffset guestOffset) = false
 wrongLevel s Unknown = false
 
 -- Refusal 6: the lent room, of so many numbers, has too few for the size after the operation.

@@ -1,4 +1,4 @@
-// The operations (document 01, "Operations"; document 02, Five) and their refusals ("Refusal numbers, in order of checking";
+// The operations (document 01, "Operations"; document 02, Five and Six) and their refusals ("Refusal numbers, in order of checking";
 // docs/MANUAL.md, "Operations" and "Refusals").
 ghost use mathlib.Core.Path.{_≡_};
 ghost use mathlib.Core.Bool.{false, _||_, not};
@@ -19,7 +19,7 @@ use state::State;
 use state::is_size;
 
 // The largest code that an operation has: refusal 2, the reader and the writer of recordings go by it.
-pub const LAST_CODE: u64 = 9;
+pub const LAST_CODE: u64 = 10;
 
 // One operation and its fields, which are numbers as handed in: refusal 4 judges them. (`kind` is a type; that word is the
 // language's own.)
@@ -64,6 +64,12 @@ pub enum Operation {
         target: u64,
         target_level: u64,
     },
+    Freeze {
+        group: u64,
+        physical: u64,
+        virtual_offset: u64,
+        guest_offset: u64,
+    },
     // A code above the last.
     Unknown,
 }
@@ -104,6 +110,12 @@ pub fn operation_of(code: u64, a: u64, b: u64, c: u64, d: u64) -> Operation
             target: a,
             target_level: b,
         },
+        10 => Operation::Freeze {
+            group: a,
+            physical: b,
+            virtual_offset: c,
+            guest_offset: d,
+        },
         _ => Operation::Unknown,
     }
 }
@@ -123,6 +135,7 @@ fn code_of(o: Operation) -> u64
         Operation::Iall => 7,
         Operation::Halt { .. } => 8,
         Operation::Resume { .. } => 9,
+        Operation::Freeze { .. } => 10,
         Operation::Unknown => LAST_CODE + 1,
     }
 }
@@ -209,6 +222,7 @@ fn judge(s: State, o: Operation) -> Judged
             !(s.halted == 1),
             s.unavailable(target_level),
         ),
+        Operation::Freeze { group, .. } => conditions(1 < group, false, false),
         Operation::Unknown => conditions(false, false, false),
     }
 }
@@ -228,6 +242,7 @@ fn size_after(s: State, o: Operation) -> u64
         Operation::Iall => s.size,
         Operation::Halt { .. } => s.size,
         Operation::Resume { .. } => s.size,
+        Operation::Freeze { .. } => s.size,
         Operation::Unknown => s.size,
     }
 }

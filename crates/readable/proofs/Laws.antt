@@ -71,7 +71,7 @@ length-register n =
     let own = length-decimal n in
     let group : length (groupRegister n) ≤ 26 = length-entry (groups n) (n / 32) (decimal n) 26 (omega arith, (omega arith, (omega arith, tt))) (omega arith) in
     let long : length (entry registers n (groupRegister n)) ≤ 26
-    = length-entry registers n (groupRegister n) 26 (omega arith, (omega arith, (omega arith, (omega arith, tt)))) group in
+    = length-entry registers n (groupRegister n) 26 (omega arith, (omega arith, (omega arith, (omega arith, (omega arith, tt))))) group in
     omega arith
 
 length-text : (x : Numbers) → length (readableText x) ≤ 255
@@ -98,7 +98,10 @@ length-text x =
               simp length-append (omega arith),
               (
                 simp length-append (omega arith),
-                (simp length-append (omega arith), (simp length-append (omega arith), (simp length-append (omega arith), tt))),
+                (
+                  simp length-append (omega arith),
+                  (simp length-append (omega arith), (simp length-append (omega arith), (simp length-append (omega arith), tt))),
+                ),
               ),
             ),
           ),

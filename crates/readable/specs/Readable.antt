@@ -34,6 +34,7 @@ registers =
     ∷ (1, bytesOfText "BRBCR_EL1")
     ∷ (2, bytesOfText "BRBCR_EL2")
     ∷ (3, bytesOfText "BRBFCR_EL1")
+    ∷ (4, bytesOfText "BRBTS_EL1")
     ∷ []
 
 -- The other registers stand in three groups of 32, each numbered from 0: 32 is BRBINF0, and 127 is BRBTGT31.
@@ -116,6 +117,14 @@ haltText x = bytesOfText "halt" ++ cyclesField x ++ field "source" (prefixed (x 
 abbrev pub resumeText : Numbers → List ℕ
 resumeText x = bytesOfText "resume" ++ cyclesField x ++ field "target" (prefixed (x .a)) ++ field "target_level" (decimal (x .b))
 
+-- The processor's count at an overflow, and its two offsets.
+abbrev pub clockFields : Numbers → List ℕ
+clockFields x = field "physical" (prefixed (x .b)) ++ field "virtual_offset" (prefixed (x .c)) ++ field "guest_offset" (prefixed (x .d))
+
+-- A freeze.
+abbrev pub freezeText : Numbers → List ℕ
+freezeText x = bytesOfText "freeze" ++ cyclesField x ++ field "group" (decimal (x .a)) ++ clockFields x
+
 -- The operations by their code.
 abbrev pub texts : Numbers → List (ℕ × List ℕ)
 texts x =
@@ -128,6 +137,7 @@ texts x =
     ∷ (6, writeText x)
     ∷ (8, haltText x)
     ∷ (9, resumeText x)
+    ∷ (10, freezeText x)
     ∷ []
 
 -- The text of an operation; a code that is none of these is an IALL's.

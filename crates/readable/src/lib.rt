@@ -7,7 +7,7 @@ ghost use lib.ListN.{length, take};
 ghost use lib.Dec.{leb};
 ghost use Rattle.text.specs.Text.{decimal};
 ghost use Rattle.notation.specs.Text.{spaced, numbersLine};
-ghost use Rattle.readable.specs.Readable.{Put, prefixed, cyclesField, branchTypeField, groupField, registerField, addressFields, resetText, branchText, exceptionText, returnText, platformText, readText, writeText, haltText, resumeText, readableText, readableLine, lineEnd, lineWritten};
+ghost use Rattle.readable.specs.Readable.{Put, prefixed, cyclesField, branchTypeField, groupField, registerField, addressFields, resetText, branchText, exceptionText, returnText, platformText, readText, writeText, haltText, resumeText, clockFields, freezeText, readableText, readableLine, lineEnd, lineWritten};
 use buffer::ROOM;
 use buffer::forward;
 use recording::Numbers;
@@ -87,7 +87,7 @@ fn put_group_register(out: &mut [u8; ROOM], at: usize, register: u64) -> usize
     }
 }
 
-// A register of document 01's list, or its number where it has no name.
+// A register by its name, or its number where it has none.
 fn put_register(out: &mut [u8; ROOM], at: usize, register: u64) -> usize
     ensures { λ r. ⌜ Put (now (out .entry)) at (registerField register) r (now (out .exit)) ⌝ }
 {
@@ -96,6 +96,7 @@ fn put_register(out: &mut [u8; ROOM], at: usize, register: u64) -> usize
         1 => put_text(out, at, b" register=BRBCR_EL1"),
         2 => put_text(out, at, b" register=BRBCR_EL2"),
         3 => put_text(out, at, b" register=BRBFCR_EL1"),
+        4 => put_text(out, at, b" register=BRBTS_EL1"),
         _ => put_group_register(out, at, register),
     }
 }
@@ -172,6 +173,23 @@ fn put_resume(out: &mut [u8; ROOM], at: usize, x: Numbers) -> usize
     put_decimal(out, target, b" target_level=", x.b)
 }
 
+// The processor's count at an overflow, and its two offsets.
+fn put_clock(out: &mut [u8; ROOM], at: usize, x: Numbers) -> usize
+    ensures { λ r. ⌜ Put (now (out .entry)) at (clockFields x) r (now (out .exit)) ⌝ }
+{
+    let count = put_hexadecimal(out, at, b" physical=", x.b);
+    let offset = put_hexadecimal(out, count, b" virtual_offset=", x.c);
+    put_hexadecimal(out, offset, b" guest_offset=", x.d)
+}
+
+fn put_freeze(out: &mut [u8; ROOM], at: usize, x: Numbers) -> usize
+    ensures { λ r. ⌜ Put (now (out .entry)) at (freezeText x) r (now (out .exit)) ⌝ }
+{
+    let cycles = put_opening(out, at, b"freeze", x);
+    let group = put_decimal(out, cycles, b" group=", x.a);
+    put_clock(out, group, x)
+}
+
 fn put_operation(out: &mut [u8; ROOM], at: usize, x: Numbers) -> usize
     ensures { λ r. ⌜ Put (now (out .entry)) at (readableText x) r (now (out .exit)) ⌝ }
 {
@@ -186,6 +204,7 @@ fn put_operation(out: &mut [u8; ROOM], at: usize, x: Numbers) -> usize
         6 => put_write(out, at, x),
         8 => put_halt(out, at, x),
         9 => put_resume(out, at, x),
+        10 => put_freeze(out, at, x),
         _ => put_opening(out, at, b"iall", x),
     }
 }

@@ -14,9 +14,13 @@ use Rattle.recording.specs.declared.Numbers.{Numbers}
 use Rattle.recording.specs.declared.Reading.{Reading}
 use Rattle.recording.specs.declared.Reading.the-variants.{Operation, Refused}
 
--- How many fields each code has, from 0 on; a code past the last has none.
+-- How many fields each code has, from 0 on.
+abbrev pub fieldCounts : List ℕ
+fieldCounts = 2 ∷ 4 ∷ 4 ∷ 4 ∷ 1 ∷ 1 ∷ 2 ∷ 0 ∷ 1 ∷ 2 ∷ 4 ∷ []
+
+-- How many a code has; one past the last has none.
 unfoldable pub fieldCount : ℕ → ℕ
-fieldCount code = getD (2 ∷ 4 ∷ 4 ∷ 4 ∷ 1 ∷ 1 ∷ 2 ∷ 0 ∷ 1 ∷ 2 ∷ []) code 0
+fieldCount code = getD fieldCounts code 0
 
 -- Several numbers read one after another: all of them and the place after the last; or the number of the refusal, and where
 -- the first bad one starts.

@@ -56,7 +56,7 @@ const MALFORMED: u64 = 1;
 
 const UNKNOWN_CODE: u64 = 2;
 
-// How many fields each code has (document 01, "Operations"; document 02, Five): 0 for a code past the last, which has none. A chain
+// How many fields each code has (document 01, "Operations"; document 02, Five and Six): 0 for a code past the last, which has none. A chain
 // and no table, since a table is laid out on the stack at every call; and one of bounds, since the compiler makes a table of single
 // codes, and then no longer sees that there are at most four fields: it would not unroll the loop that reads them. A branch stands
 // first, since most operations are branches.
@@ -86,6 +86,9 @@ pub fn field_count(code: u64) -> u64
     }
     if code <= 9 {
         return 2;
+    }
+    if code <= 10 {
+        return 4;
     }
     0
 }

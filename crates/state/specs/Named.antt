@@ -1,10 +1,10 @@
--- The bits of P and of the control registers by name, and the states that document 01 names: "Operations"; document 02, Five;
--- docs/MANUAL.md, "The platform word P", "Registers" and "Halts and resumes".
+-- The bits of P and of the control registers by name, and the states that document 01 names: "Operations"; document 02, Five and
+-- Six; docs/MANUAL.md, "The platform word P", "Registers", "Halts and resumes" and "Freezes".
 use Prim.Native.Nat.{ℕ}
 use mathlib.Core.Bool.{Bool, cond, _&&_, _||_}
 use mathlib.Core.List.{List, [], _∷_}
 use lib.Dec.{eqb}
-use Rattle.bits.specs.Bits.{isSet, part}
+use Rattle.bits.specs.Bits.{isSet, part, withBit}
 use Rattle.state.specs.declared.State.{State}
 use Rattle.state.specs.declared.Running.{Running}
 use Rattle.state.specs.Parts.{stateOf, withNumber}
@@ -33,7 +33,7 @@ SBRBE s = part 5 4 (s .p)
 abbrev pub FGTEn : State → Bool
 FGTEn s = isSet 8 (s .p)
 
--- P bit 9: HDFGRTR_EL2.nBRBDATA, the n-bit of reading records. An n-bit that is 0 traps its accesses at EL1 to EL2, where EL2
+-- P bit 9: HDFGRTR_EL2.nBRBDATA, the n-bit of reading records and BRBTS_EL1. An n-bit that is 0 traps its accesses at EL1 to EL2, where EL2
 -- is enabled and FGTEn is 1.
 abbrev pub nBRBDATA : State → Bool
 nBRBDATA s = isSet 9 (s .p)
@@ -123,11 +123,15 @@ inDebugState s = withNumber 9 1 s
 abbrev pub resumedAt : ℕ → State → State
 resumedAt level s = withNumber 9 0 (atLevel level s)
 
+-- The state once it is frozen at a time: PAUSED is 1 and BRBTS_EL1 the time; all else, BRBFCR_EL1's other bits too, stays.
+abbrev pub frozenAt : ℕ → State → State
+frozenAt time s = withNumber 6 (withBit 7 (s .brbfcr)) (withNumber 10 time s)
+
 -- The running count after a reset: 0, and the next count is unknown, since no record was made that it could run from.
 abbrev pub runningAfterReset : Running
 runningAfterReset = record { count = 0; unknown = 1 }
 
--- A reset: level 3 and not halted, its size and v1p1, 0 in P and in the three control registers, and the running count after a
--- reset. (House: on a processor a cold reset leaves much of this unknown.)
+-- A reset: level 3 and not halted, its size and v1p1, 0 in P, in the three control registers and in BRBTS_EL1, and the running
+-- count after a reset. (House: on a processor a cold reset leaves much of this unknown.)
 abbrev pub afterReset : ℕ → ℕ → State
 afterReset size v1p1 = withRunning runningAfterReset (atLevel 3 (withNumber 1 size (withNumber 2 v1p1 fresh)))

@@ -28,7 +28,7 @@ cap = 1048576
 unfoldable pub unavailable : State → ℕ → Bool
 unavailable s level = eqb level 2 && not (EL2Enabled s) || eqb level 1 && TGE s && EL2Enabled s
 
--- Each number of the state is in its list and its level is there. (That lent numbers are too few to hold a state is refusal
+-- Each number of the state is in its list and its level is there; BRBTS_EL1 can be any number. (That lent numbers are too few to hold a state is refusal
 -- 7 too, and is said where they are loaded.)
 unfoldable pub sound : State → Bool
 sound s =

@@ -1,7 +1,7 @@
-// The state of the model (document 01, "Operations" and refusal 7; document 02, Five; docs/MANUAL.md, "State and room").
+// The state of the model (document 01, "Operations" and refusal 7; document 02, Five and Six; docs/MANUAL.md, "State and room").
 ghost use mathlib.Core.Path.{_≡_};
 ghost use Rattle.bits.specs.Bits.{oneOf};
-ghost use Rattle.state.specs.Named.{EL2Enabled, EL3RecordingEnabled, counting, predictionShown, PAUSED, BANK, side, sizes, fresh, afterReset, atLevel, inDebugState, resumedAt, withPlatform, withRegisters, withRunning};
+ghost use Rattle.state.specs.Named.{EL2Enabled, EL3RecordingEnabled, counting, predictionShown, PAUSED, BANK, side, sizes, fresh, afterReset, atLevel, inDebugState, resumedAt, frozenAt, withPlatform, withRegisters, withRunning};
 ghost use Rattle.state.specs.Sound.{unavailable, sound};
 ghost use Rattle.state.specs.Words.{stored, loaded};
 use bits::pick;
@@ -38,7 +38,7 @@ pub const CAP: u64 = 1_048_576;
 pub const DEBUG_STATE: u64 = 4;
 
 // How many lent numbers hold a state.
-pub const STATE_NUMBERS: usize = 10;
+pub const STATE_NUMBERS: usize = 11;
 
 // The running count, and whether the next record's count is unknown.
 pub struct Running {
@@ -46,7 +46,7 @@ pub struct Running {
     pub unknown: u64,
 }
 
-// All that one processor's recorder holds but its records. In lent memory these ten numbers stand in this order.
+// All that one processor's recorder holds but its records. In lent memory these eleven numbers stand in this order.
 pub struct State {
     pub level: u64,
     // 0 before the first reset.
@@ -60,6 +60,8 @@ pub struct State {
     pub running: Running,
     // 1 while the processor is in Debug state.
     pub halted: u64,
+    // BRBTS_EL1: the time of the last freeze.
+    pub brbts: u64,
 }
 
 // The sizes that a reset can give.
@@ -160,6 +162,7 @@ impl State {
             brbfcr: 0,
             running,
             halted: 0,
+            brbts: 0,
         }
     }
 
@@ -199,6 +202,15 @@ impl State {
     {
         self.level = level;
         self.halted = 0;
+        self
+    }
+
+    // The records are frozen: PAUSED is set, and BRBTS_EL1 has the time.
+    pub fn frozen_at(mut self, time: u64) -> State
+        ensures { λ r. ⌜ r ≡ frozenAt time self ⌝ }
+    {
+        self.brbfcr = self.brbfcr | PAUSED;
+        self.brbts = time;
         self
     }
 
@@ -254,6 +266,7 @@ pub fn load(words: &[u64]) -> Loaded
         brbfcr: words[6],
         running,
         halted: words[9],
+        brbts: words[10],
     };
     if s.sound() {
         Loaded::Held(s)
@@ -280,4 +293,5 @@ pub fn store(words: &mut [u64], s: State)
     words[7] = running.count;
     words[8] = running.unknown;
     words[9] = s.halted;
+    words[10] = s.brbts;
 }

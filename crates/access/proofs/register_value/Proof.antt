@@ -6,4 +6,4 @@ use Rattle.access.proofs.register_value.Tie as tie
 
 pub register-value-spec : {M : Type 1} → statement M
 unfolding registerValue
-register-value-spec = tie.close (tie.spec (λ _ _. tt) (λ _ _. tt) (λ _ _. tt) (λ _ _. tt) (λ c. search needs) (λ _ _. tt) (λ c. cc))
+register-value-spec = tie.close (tie.spec (λ _ _. tt) (λ _ _. tt) (λ _ _. tt) (λ _ _. tt) (λ _ _. tt) (λ c. search needs) (λ _ _. tt) (λ c. cc))

@@ -4,6 +4,7 @@ use mathlib.Core.Path.{_≡_, refl}
 use mathlib.Core.Bool.{Bool, true, false, _&&_, _||_, not}
 use borrow.Author.Needs.{needs}
 use Rattle.event.specs.Event.{becomesRecord}
+use Rattle.freeze.proofs.Laws.{no-occasion}
 use Rattle.operation.specs.Clause.{changed}
 use Rattle.change.specs.Change.{effectOf, answerOf}
 use Rattle.change.proofs.Occasions.{unset, or-false}
@@ -37,6 +38,8 @@ does-spec =
     (λ _ _. tt)
     (λ c. search needs)
     (λ _ _. tt)
+    (λ _ _. tt)
+    (λ c. search needs)
     (λ _ _. tt)
     (λ c. search needs)
     (λ _ _. tt)
@@ -88,6 +91,10 @@ does-spec =
     let o = c .before .before .o9 .given .1 in
     let clause = c .resume-clause .ensures in
     (rw (o, clause), rw (o, clause, unset), λ r. rw (o, clause), rw (o, clause)))
+    (λ c.
+    let o = c .before .before .o10 .given .1 in
+    let clause = c .freeze-clause .ensures in
+    (rw (o, clause), rw (o, clause, no-occasion), λ r. rw (o, clause), rw (o, clause)))
     (λ c.
     let o = c .before .enum-told2 .given .1 in
     let clause = c .plain-clause4 .ensures in

@@ -19,4 +19,5 @@ operation-of-spec =
     (λ c. rw (c .match .keys8))
     (λ c. rw (c .match .keys9))
     (λ c. rw (c .match .keys10))
+    (λ c. rw (c .match .keys11))
     (λ c. search ne-eqb))

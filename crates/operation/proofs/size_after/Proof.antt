@@ -1,7 +1,7 @@
--- The size after the operation, as defined: each arm knows its operation, and no write changes the size.
+-- The size after the operation, as defined: each arm knows its operation, and neither a write nor a freeze changes the size.
 use mathlib.Core.Path.{refl, sym}
 use borrow.Author.Needs.{needs}
-use Rattle.operation.specs.declared.Operation.the-variants.{Write}
+use Rattle.operation.specs.declared.Operation.the-variants.{Write, Freeze}
 use Rattle.operation.specs.Clause.{changed}
 use Rattle.operation.proofs.Size.{size-kept}
 use Rattle.operation.proofs.size_after.Statement.{statement}
@@ -23,6 +23,7 @@ size-after-spec =
     (λ c. search needs)
     (λ c. search needs)
     (λ c. search needs)
+    (λ c. search needs)
     (λ c. rw (c .before .o .given .1))
     (λ c. rw (c .enum-told .given .1))
     (λ c. rw (c .enum-told2 .given .1))
@@ -33,4 +34,5 @@ size-after-spec =
     (λ c. rw (c .enum-told7 .given .1))
     (λ c. rw (c .enum-told8 .given .1))
     (λ c. rw (c .enum-told9 .given .1))
-    (λ c. rw (c .enum-told10 .given .1)))
+    (λ c. let (o, e) = c .enum-told10 .given in rw e (sym (size-kept (c .before .before .args .s) (Freeze (o .0) (o .1 .0) (o .1 .1 .0) (o .1 .1 .1 .0)) refl)))
+    (λ c. rw (c .enum-told11 .given .1)))

@@ -20,6 +20,7 @@ put-operation-spec =
     (λ _ _. tt)
     (λ _ _. tt)
     (λ _ _. tt)
+    (λ _ _. tt)
     (λ c. search needs)
     (λ _ _. tt)
     (λ c. rw (c .before .before .match .keys1) (c .put-reset .ensures))
@@ -31,6 +32,7 @@ put-operation-spec =
     (λ c. rw (c .before .before .match .keys7) (c .put-write .ensures))
     (λ c. rw (c .before .before .match .keys8) (c .put-halt .ensures))
     (λ c. rw (c .before .before .match .keys9) (c .put-resume .ensures))
+    (λ c. rw (c .before .before .match .keys10) (c .put-freeze .ensures))
     (λ c.
     let x = c .before .before .before .before .args .x in
     let last : readableText x ≡ iallText x = search ne-eqb in

@@ -17,11 +17,14 @@ put-register-spec =
     (λ _ _. tt)
     (λ c. search needs)
     (λ _ _. tt)
+    (λ c. search needs)
+    (λ _ _. tt)
     (λ _ _. tt)
     (λ c. rw (c .before .before .before .match .keys1) (c .put-text .ensures))
     (λ c. rw (c .before .before .before .match .keys2) (c .put-text2 .ensures))
     (λ c. rw (c .before .before .before .match .keys3) (c .put-text3 .ensures))
     (λ c. rw (c .before .before .before .match .keys4) (c .put-text4 .ensures))
+    (λ c. rw (c .before .before .before .match .keys5) (c .put-text5 .ensures))
     (λ c.
     let n = c .before .before .before .args .register in
-    rw (ne-eqb (n) 0 (omega arith), ne-eqb (n) 1 (omega arith), ne-eqb (n) 2 (omega arith), ne-eqb (n) 3 (omega arith)) (c .put-group-register .ensures)))
+    rw (ne-eqb (n) 0 (omega arith), ne-eqb (n) 1 (omega arith), ne-eqb (n) 2 (omega arith), ne-eqb (n) 3 (omega arith), ne-eqb (n) 4 (omega arith)) (c .put-group-register .ensures)))

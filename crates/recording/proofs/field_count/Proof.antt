@@ -1,10 +1,9 @@
 -- The number of fields, as defined: each answer is that of the codes that are left for it.
 use Prim.Native.Nat.{ℕ, zero, suc, _≤_, _<_}
 use mathlib.Core.Path.{_≡_, refl, sym, ap}
-use mathlib.Core.List.{[], _∷_}
 use native.Mathlib.Omega.{arith}
 use lib.ListN.{List·getD-eq-default}
-use Rattle.recording.specs.Recording.{fieldCount}
+use Rattle.recording.specs.Recording.{fieldCounts, fieldCount}
 use Rattle.recording.proofs.field_count.Statement.{statement}
 use Rattle.recording.proofs.field_count.Tie as tie
 
@@ -31,9 +30,9 @@ only : (code n : ℕ) → n ≤ code → code ≤ n → fieldCount n ≡ fieldCo
 only code n low high = let same : n ≡ code = omega arith in ap fieldCount same
 
 -- Past the last code
-none : (code : ℕ) → 9 < code → 0 ≡ fieldCount code
+none : (code : ℕ) → 10 < code → 0 ≡ fieldCount code
 unfolding fieldCount
-none code past = sym (List·getD-eq-default (2 ∷ 4 ∷ 4 ∷ 4 ∷ 1 ∷ 1 ∷ 2 ∷ 0 ∷ 1 ∷ 2 ∷ []) 0 {n = code} past)
+none code past = sym (List·getD-eq-default fieldCounts 0 {n = code} past)
 
 pub field-count-spec : {M : Type 1} → statement M
 unfolding fieldCount
@@ -48,4 +47,5 @@ field-count-spec =
     (λ c. (only (c .before .before .before .before .before .before .args .code) 7 (omega arith) (omega arith), omega arith))
     (λ c. (only (c .before .before .before .before .before .before .before .args .code) 8 (omega arith) (omega arith), omega arith))
     (λ c. (only (c .before .before .before .before .before .before .before .before .args .code) 9 (omega arith) (omega arith), omega arith))
-    (λ c. (none (c .before .before .before .before .before .before .before .before .args .code) (omega arith), omega arith)))
+    (λ c. (only (c .before .before .before .before .before .before .before .before .before .args .code) 10 (omega arith) (omega arith), omega arith))
+    (λ c. (none (c .before .before .before .before .before .before .before .before .before .args .code) (omega arith), omega arith)))

@@ -34,5 +34,6 @@ store-spec =
     (λ c. simp length-set (omega arith))
     (λ c. simp length-set (omega arith))
     (λ c. simp length-set (omega arith))
+    (λ c. simp length-set (omega arith))
     (λ c. simp length-set)
     returns-2)
