@@ -3,14 +3,16 @@ use Prim.Native.Nat.{ℕ, _+_, _-_, _^_, _%_, _≤_, _<_}
 use native.Mathlib.Omega.{arith}
 use mathlib.Core.Path.{_≡_, refl}
 use mathlib.Core.Bool.{Bool, true, false, cond, _&&_, _||_, not}
-use mathlib.Core.Logic.{_↔_}
+use mathlib.Core.Logic.{_↔_, _≢_}
+use borrow.Author.Tests.{eq-eqb, ne-eqb}
+use Rattle.bits.specs.Bits.{part}
 use Rattle.bits.proofs.Cases.{never}
 use Rattle.bits.proofs.Each.{each}
 use Rattle.state.specs.declared.State.{State}
 use Rattle.state.specs.Named.{counting, PAUSED, isHalted, debugState, side, frozenAt}
 use Rattle.region.specs.Region.{prohibited}
 use Rattle.region.proofs.Laws.{in-Debug-state}
-use Rattle.freeze.specs.Freeze.{FZP, freezes, difference, time, overflowed}
+use Rattle.freeze.specs.Freeze.{FZP, freezes, TS, difference, time, overflowed}
 
 -- The group's control is 1, the level is not prohibited, the processor is not halted, and PAUSED is 0.
 pub record Freezes (s : State) (group : ℕ) : Type 0 where
@@ -37,6 +39,11 @@ freezes-exactly s group = (
       record { control = search each; level-open = level; not-halted = halted; not-paused = search each },
   λ f. rw (f .control, f .not-halted, f .level-open, f .not-paused),
 )
+
+-- BRBCR_EL2's TS chooses the time, or BRBCR_EL1's where it is 0.
+pub which-TS : (s : State)
+    → (part 6 5 (s .brbcr2) ≢ 0 → TS s ≡ part 6 5 (s .brbcr2)) × (part 6 5 (s .brbcr2) ≡ 0 → TS s ≡ part 6 5 (s .brbcr1))
+which-TS s = (λ h. rw (ne-eqb (part 6 5 (s .brbcr2)) 0 h), λ h. rw (eq-eqb (part 6 5 (s .brbcr2)) 0 h))
 
 -- The difference of numbers of 64 bits: where the offset is not above the count it is that of the numbers, else 2^64 is added to it.
 pub not-wrapped : (count offset : ℕ) → count < 2 ^ 64 → offset ≤ count → difference count offset ≡ count - offset

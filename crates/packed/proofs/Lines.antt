@@ -88,7 +88,8 @@ own-made (suc (suc (suc (suc (suc (suc zero)))))) cycles a b c d h = refl
 own-made (suc (suc (suc (suc (suc (suc (suc zero))))))) cycles a b c d h = refl
 own-made (suc (suc (suc (suc (suc (suc (suc (suc zero)))))))) cycles a b c d h = refl
 own-made (suc (suc (suc (suc (suc (suc (suc (suc (suc zero))))))))) cycles a b c d h = refl
-own-made (suc (suc (suc (suc (suc (suc (suc (suc (suc (suc code)))))))))) cycles a b c d h = absurd (omega arith)
+own-made (suc (suc (suc (suc (suc (suc (suc (suc (suc (suc zero)))))))))) cycles a b c d h = refl
+own-made (suc (suc (suc (suc (suc (suc (suc (suc (suc (suc (suc code))))))))))) cycles a b c d h = absurd (omega arith)
 
 pub line-made : (x : Numbers) → Writable x → endedAt (addedAll noneBegun (x .code ∷ ownNumbers x)) 0 ≡ Operation (asRead x) 0
 line-made x w = own-made (x .code) (x .cycles) (x .a) (x .b) (x .c) (x .d) (w .known)
