@@ -15,8 +15,8 @@ use crate::{c, Answer};
 /// ```
 /// use brb::Answer;
 ///
-/// // A reset to 8 records, a read of register 4, which is refused, and one of BRBIDR0_EL1.
-/// let bytes = [0, 0, 8, 0, 5, 0, 4, 5, 0, 0];
+/// // A reset to 8 records, a read of register 5, which is refused, and one of BRBIDR0_EL1.
+/// let bytes = [0, 0, 8, 0, 5, 0, 5, 5, 0, 0];
 /// let (mut state, mut room) = ([0; brb::STATE_NUMBERS], [0; brb::room_numbers(8)]);
 /// let mut answers = [9; brb::batch_numbers(10)];
 /// assert_eq!(brb::batch(&mut state, &mut room, &bytes, &mut answers[..5]), Answer { number: 6, value: 0 });

@@ -58,7 +58,7 @@ pub const REFUSED_MALFORMED: u64 = 1;
 pub const REFUSED_CODE: u64 = 2;
 /// Refused: no reset yet, and the operation is none.
 pub const REFUSED_NOT_RESET: u64 = 3;
-/// Refused: size, flag, type, level, register, P or count encoding outside its list.
+/// Refused: size, flag, type, level, register, P, group or count encoding outside its list.
 pub const REFUSED_OUTSIDE_LIST: u64 = 4;
 /// Refused: the level does not permit the operation.
 pub const REFUSED_LEVEL: u64 = 5;

@@ -4,7 +4,7 @@ use crate::{c, Answer, Operation, Recorded, DONE, OPERATION_NUMBERS};
 
 /// The operation at a position of a recording, as six numbers into a lent place, with 0 for fields that it has not.
 /// Answers 0 and the position after it; or 6 where the place has fewer than [`OPERATION_NUMBERS`] (checked first), 1 where
-/// a number is malformed or the input ends inside the operation, 2 where the code is above 9, and then the place is left
+/// a number is malformed or the input ends inside the operation, 2 where the code is above 10, and then the place is left
 /// as it was. [`operation_at`] gives it by name.
 #[inline]
 pub fn recording_read(bytes: &[u8], at: usize, place: &mut [u64]) -> Answer {
@@ -33,7 +33,7 @@ pub fn operation_at(bytes: &[u8], at: usize) -> Result<(Operation, usize), u64> 
 }
 
 /// Writes an operation at a position of lent bytes. Answers 0 and the number of bytes written; or 2 where the code is
-/// above 9, then 6 where the operation has no room there, and then no byte is written. Nothing else is checked.
+/// above 10, then 6 where the operation has no room there, and then no byte is written. Nothing else is checked.
 ///
 /// ```
 /// use brb::{Answer, Operation};

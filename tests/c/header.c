@@ -11,7 +11,7 @@
 #include "check.h"
 
 /* Constants that fit an int can be asked by the preprocessor. */
-#if BRB_VERSION_MAJOR != 2 || BRB_STATE_NUMBERS != BRB_STATE_HALTED + 1 || BRB_LARGEST_ROOM != 192
+#if BRB_VERSION_MAJOR != 3 || BRB_STATE_NUMBERS != BRB_STATE_BRBTS_EL1 + 1 || BRB_LARGEST_ROOM != 192
 #error "brb.h: a constant is not what it was"
 #endif
 #if BRB_STATE_HALTED != BRB_STATE_UNKNOWN + 1 || BRB_CODE_HALT != BRB_CODE_IALL + 1 || BRB_CODE_RESUME != 9
@@ -19,6 +19,12 @@
 #endif
 #if BRB_REFUSED_HALTED != 8 || BRB_TYPE_DEBUG_HALT != 0x21 || BRB_TYPE_DEBUG_EXIT != 0x39
 #error "brb.h: a number of halts is not what it was"
+#endif
+#if BRB_STATE_BRBTS_EL1 != BRB_STATE_HALTED + 1 || BRB_CODE_FREEZE != BRB_CODE_RESUME + 1 || BRB_REGISTER_BRBTS_EL1 != 4
+#error "brb.h: a constant of freezes is not what it was"
+#endif
+#if BRB_TS_NONE != 0 || BRB_TS_VIRTUAL != 1 || BRB_TS_GUEST != 2 || BRB_TS_PHYSICAL != 3
+#error "brb.h: a TS is not what it was"
 #endif
 #if BRB_ANSWER_NUMBERS != 2 || BRB_BATCH_NUMBERS(0) != 1 || BRB_BATCH_NUMBERS(59) != 60
 #error "brb.h: a constant of batches is not what it was"
@@ -39,6 +45,7 @@ static void masks(void) {
     check(all == BRB_FILTER_MASK, "BRBFCR_EL1's bits are its mask");
     check((BRB_P_NS | BRB_P_SBRBE_IS(3)) == 49, "S1's P");
     check(BRB_P_SBRBE_IS(3) == BRB_P_SBRBE && BRB_FILTER_BANK_IS(3) == BRB_FILTER_BANK, "fields of two bits");
+    check(BRB_CONTROL_TS_IS(BRB_TS_PHYSICAL) == BRB_CONTROL_TS, "TS, a field of two bits");
     check(~BRB_P_MASK >> 32 == 0xFFFFFFFF, "a mask has 64 bits");
 }
 

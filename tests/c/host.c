@@ -1,5 +1,5 @@
-/* A C host of the library: session S1, halts and resumes, each refusal, rooms and states at their bounds, counts and their sums,
- * and batches, through include/brb.h.
+/* A C host of the library: session S1, halts and resumes, freezes, each refusal, rooms and states at their bounds, counts and
+ * their sums, and batches, through include/brb.h.
  *
  * Every lent area is allocated with exactly the numbers that are lent, so that valgrind sees a step past its end. */
 #include "brb.h"
@@ -92,8 +92,8 @@ static void session_s1(void) {
     struct brb_answer answer = brb_read(l.state, l.state_numbers, l.room, l.room_numbers, 9, 96);
     check(answer.number == 0 && answer.value == 4096, "brb_read: newest BRBTGT");
     check(l.state[7] == 9, "brb_read: its cycles count");
-    answer = brb_read(l.state, l.state_numbers, l.room, l.room_numbers, 0, 4);
-    check(answer.number == 4 && answer.value == 0, "brb_read: register 4 is refused");
+    answer = brb_read(l.state, l.state_numbers, l.room, l.room_numbers, 0, 5);
+    check(answer.number == 4 && answer.value == 0, "brb_read: register 5 is refused");
     check(l.room[24] == 7, "S1: the room past eight records is not written");
     take_back(&l);
 }
@@ -162,9 +162,67 @@ static void halts(void) {
     take_back(&l);
 }
 
+/* BRBCR_EL1 of a session at EL1, with FZP and the virtual time; and the time of a count of 1,000 with an offset of 1,500. */
+#define FREEZING (10 | BRB_CONTROL_FZP | BRB_CONTROL_TS_IS(BRB_TS_VIRTUAL))
+#define WRAPPED UINT64_C(0xFFFFFFFFFFFFFE0C)
+
+/* An overflow freezes at EL1, and a write of BRBFCR_EL1 lets recording go on. */
+static void freeze_and_go_on(void) {
+    struct lent l = recorded_at_el1();
+    answers(&l, OP(BRB_CODE_WRITE, 0, BRB_REGISTER_BRBCR_EL1, FREEZING), 0, 0, "FZP and TS 1 in BRBCR_EL1");
+    answers(&l, OP(BRB_CODE_FREEZE, 40, 0, 1000, 1500, 7), 0, 0, "a freeze");
+    check(l.state[BRB_STATE_BRBFCR_EL1] == (BRB_FILTER_ENI | BRB_FILTER_PAUSED), "PAUSED is set, and EnI stays");
+    check(l.state[BRB_STATE_BRBTS_EL1] == WRAPPED, "the time is taken modulo 2^64");
+    check(l.state[BRB_STATE_COUNT] == 40 && l.state[BRB_STATE_UNKNOWN] == 0, "its cycles count, and it is no occasion");
+    answers(&l, OP(BRB_CODE_READ, 0, BRB_REGISTER_BRBTS_EL1), 0, WRAPPED, "a read of BRBTS_EL1");
+    answers(&l, OP(BRB_CODE_WRITE, 0, BRB_REGISTER_BRBTS_EL1, 5), 100, 0, "a write of BRBTS_EL1 is undefined");
+    answers(&l, OP(BRB_CODE_FREEZE, 0, 0, 9, 0, 0), 0, 0, "a second overflow");
+    answers(&l, OP(BRB_CODE_BRANCH, 0, 0, 0, 8, 12), 0, 0, "a branch after the freeze");
+    check(l.room[1] == 4096 && l.room[3] == 0, "is not recorded");
+    answers(&l, OP(BRB_CODE_IALL, 0), 0, 0, "BRB IALL");
+    check(l.state[BRB_STATE_BRBTS_EL1] == WRAPPED, "the time stays");
+    answers(&l, OP(BRB_CODE_WRITE, 0, BRB_REGISTER_BRBFCR_EL1, BRB_FILTER_ENI), 0, 0, "a write that clears PAUSED");
+    answers(&l, OP(BRB_CODE_BRANCH, 3, 0, 0, 8, 12), 0, 0, "a branch after it");
+    check(l.room[0] == UINT64_C(0x0000400000000043) && l.room[1] == 8, "whose count is unknown");
+    answers(&l, OP(BRB_CODE_RESET, 0, 8), 0, 0, "a reset");
+    check(l.state[BRB_STATE_BRBTS_EL1] == 0, "after which BRBTS_EL1 is 0");
+    take_back(&l);
+}
+
+/* An overflow that must change nothing but the running count and, where it is one, the flag of an occasion. */
+static void keeps_the_time(struct lent *l, uint64_t group, uint64_t occasion, const char *what) {
+    uint64_t *state = copied(l->state, l->state_numbers);
+    state[BRB_STATE_COUNT] += 5;
+    state[BRB_STATE_UNKNOWN] |= occasion;
+    answers(l, OP(BRB_CODE_FREEZE, 5, group, 1000, 1500, 0), 0, 0, what);
+    check(same(l->state, state, l->state_numbers), what);
+    free(state);
+}
+
+static void no_freeze(void) {
+    struct lent l = recorded_at_el1();
+    keeps_the_time(&l, 0, 0, "an overflow of group 0 without FZP");
+    keeps_the_time(&l, 1, 0, "an overflow of group 1 without FZP");
+    answers(&l, OP(BRB_CODE_WRITE, 0, BRB_REGISTER_BRBCR_EL1, FREEZING), 0, 0, "FZP in BRBCR_EL1");
+    keeps_the_time(&l, 1, 0, "an overflow of group 1 with FZP in BRBCR_EL1 alone");
+    answers(&l, OP(BRB_CODE_WRITE, 0, BRB_REGISTER_BRBFCR_EL1, BRB_FILTER_PAUSED), 0, 0, "PAUSED");
+    keeps_the_time(&l, 0, 0, "an overflow while PAUSED is 1");
+    answers(&l, OP(BRB_CODE_WRITE, 0, BRB_REGISTER_BRBFCR_EL1, 0), 0, 0, "PAUSED is cleared");
+    answers(&l, OP(BRB_CODE_HALT, 0, 8), 0, 0, "a halt, whose record ends the occasion");
+    keeps_the_time(&l, 0, 1, "an overflow while halted");
+    refuses(&l, OP(BRB_CODE_FREEZE, 5, 2, 1000, 1500, 0), 4, "4: group 2, halted too");
+    answers(&l, OP(BRB_CODE_RESUME, 0, 8, 1), 0, 0, "a resume");
+    answers(&l, OP(BRB_CODE_WRITE, 0, BRB_REGISTER_BRBCR_EL1, BRB_CONTROL_FZP), 0, 0, "EL1 is prohibited");
+    keeps_the_time(&l, 0, 1, "an overflow at a prohibited level");
+    l.room_numbers--;
+    refuses(&l, OP(BRB_CODE_FREEZE, 5, 2, 1000, 1500, 0), 4, "4 before 6: group 2 in a room that is too short");
+    refuses(&l, OP(BRB_CODE_FREEZE, 5, 0, 1000, 1500, 0), 6, "6: a freeze in a room that is too short");
+    take_back(&l);
+}
+
 static void refusals(void) {
     struct lent l = lend(BRB_STATE_NUMBERS, 0, BRB_ROOM_NUMBERS(8));
-    refuses(&l, OP(10, 5), 2, "2: code 10 before a reset");
+    refuses(&l, OP(11, 5), 2, "2: code 11 before a reset");
     refuses(&l, OP(1, 5, 99), 3, "3: a branch before a reset");
     refuses(&l, OP(0, 5, 9), 4, "4: a size of 9");
     refuses(&l, OP(0, 5, 16), 6, "6: a reset to 16 records in a room for 8");
@@ -184,7 +242,7 @@ static void refusals(void) {
     refuses(&l, OP(5, 5, 1), 6, "6: a read with a room one number too short");
     l.room_numbers++;
     l.state[0] = 2;
-    refuses(&l, OP(10, 5), 7, "7: level 2 with EL2 not enabled, before an unknown code");
+    refuses(&l, OP(11, 5), 7, "7: level 2 with EL2 not enabled, before an unknown code");
     take_back(&l);
 }
 
@@ -214,12 +272,15 @@ static void rooms(void) {
     take_back(&empty);
 }
 
-/* For each number of a state one that is not sound. */
-static const uint64_t unsound[BRB_STATE_NUMBERS] = {4, 9, 2, 0x80, 4, 4, 1, 1048577, 2, 2};
+/* For each number of a state one that is not sound. BRBTS_EL1, the last, may be any number. */
+static const uint64_t unsound[BRB_STATE_BRBTS_EL1] = {4, 9, 2, 0x80, 4, 4, 1, 1048577, 2, 2};
 
 static void states(void) {
     struct lent fresh = lend(BRB_STATE_NUMBERS, 0, BRB_ROOM_NUMBERS(8));
-    for (uint64_t code = 1; code <= 9; code++) refuses(&fresh, OP(code, 1), 3, "a fresh state takes only a reset");
+    for (uint64_t code = 1; code <= BRB_CODE_FREEZE; code++)
+        refuses(&fresh, OP(code, 1), 3, "a fresh state takes only a reset");
+    fresh.state[BRB_STATE_BRBTS_EL1] = UINT64_MAX;
+    answers(&fresh, OP(0, 1, 8), 0, 0, "a reset, whatever BRBTS_EL1 is");
     take_back(&fresh);
 
     struct lent garbage = lend(BRB_STATE_NUMBERS, UINT64_C(0xDEADBEEFDEADBEEF), BRB_ROOM_NUMBERS(8));
@@ -232,7 +293,7 @@ static void states(void) {
         take_back(&cut);
     }
 
-    for (size_t place = 0; place < BRB_STATE_NUMBERS; place++) {
+    for (size_t place = 0; place < BRB_STATE_BRBTS_EL1; place++) {
         struct lent l = lend(BRB_STATE_NUMBERS, 0, BRB_ROOM_NUMBERS(8));
         l.state[place] = unsound[place];
         refuses(&l, OP(0, 1, 8), 7, "a state with one number that is not sound");
@@ -402,27 +463,33 @@ static void batch_of_s1(void) {
 }
 
 static void batch_states(void) {
-    for (size_t place = 0; place < BRB_STATE_NUMBERS; place++) {
-        struct lent l = lend(BRB_STATE_NUMBERS, 0, BRB_ROOM_NUMBERS(8)), cut = lend(place, 0, BRB_ROOM_NUMBERS(8));
+    for (size_t place = 0; place < BRB_STATE_BRBTS_EL1; place++) {
+        struct lent l = lend(BRB_STATE_NUMBERS, 0, BRB_ROOM_NUMBERS(8));
         l.state[place] = unsound[place];
         batch_refuses(&l, s1, sizeof s1, 24, 7, "7: a batch on a state that is not sound");
         batch_refuses(&l, s1, sizeof s1, 23, 7, "7 before 6");
         batch_refuses(&l, s1, 0, 0, 7, "7: no bytes on a state that is not sound");
+        take_back(&l);
+    }
+    for (size_t count = 0; count < BRB_STATE_NUMBERS; count++) {
+        struct lent cut = lend(count, 0, BRB_ROOM_NUMBERS(8));
         batch_refuses(&cut, s1, sizeof s1, 24, 7, "7: a batch on a state that is too short");
         batch_refuses(&cut, s1, 0, 2, 7, "7: no bytes on a state that is too short");
-        take_back(&l);
         take_back(&cut);
     }
 }
 
-/* No bytes, refused operations in the middle, halts, an unknown code, and S1 with each byte cut and changed. */
+/* No bytes, refused operations in the middle, halts, freezes, an unknown code, and S1 with each byte cut and changed. */
 static void batch_runs(void) {
     static const uint8_t refused[] = {7, 0, 0, 0, 9, 0, 0, 0, 16, 0, 0, 0, 8, 0, 2, 0, 34, 0, 0, 0, 5, 0, 0};
     static const uint8_t halted[] = {0, 0, 8, 0, 9, 0, 4, 3, 8, 5, 4, 8, 5, 4, 1, 0, 0, 0, 4, 8, 4, 0, 49, 5, 0, 0, 9, 5, 8, 1, 5, 0, 2};
-    static const uint8_t unknown[] = {0, 0, 8, 0, 10, 5, 0, 0};
+    static const uint8_t frozen[] = {0, 0, 8, 0, 4, 0, 49, 6, 0, 1, 0xA2, 2, 3, 0, 1, 0, 0, 0, 10, 40, 0, 0xE8, 7, 0xDC, 0x0B, 0,
+                                     5, 0, 4, 6, 0, 4, 1, 10, 0, 2, 0, 0, 0, 5, 0, 3};
+    static const uint8_t unknown[] = {0, 0, 8, 0, 11, 5, 0, 0};
     check(batch_is_single_calls(s1, 0, BRB_ROOM_NUMBERS(8), "no bytes") == 0, "no bytes have no answer");
     check(batch_is_single_calls(refused, sizeof refused, BRB_ROOM_NUMBERS(8), "3, 4, 6 and 5") == 6, "it goes on");
     check(batch_is_single_calls(halted, sizeof halted, BRB_ROOM_NUMBERS(8), "halts and 8") == 9, "it goes on after 8");
+    check(batch_is_single_calls(frozen, sizeof frozen, BRB_ROOM_NUMBERS(8), "a freeze") == 9, "it goes on after a freeze");
     check(batch_is_single_calls(unknown, sizeof unknown, BRB_ROOM_NUMBERS(8), "an unknown code") == 2, "2 is the last");
     check(batch_is_single_calls(s1, sizeof s1, 0, "no room") == 12, "each has its own 6");
     for (size_t i = 0; i < sizeof s1; i++) {
@@ -438,6 +505,8 @@ int main(void) {
     session_s1();
     halt_and_resume();
     halts();
+    freeze_and_go_on();
+    no_freeze();
     refusals();
     rooms();
     states();

@@ -10,7 +10,7 @@ static int is(struct brb_answer answer, uint64_t number) { return answer.number 
 static uint64_t state[BRB_STATE_NUMBERS], room[BRB_LARGEST_ROOM];
 
 static void steps(void) {
-    for (uint64_t code = 0; code <= 10; code++) {
+    for (uint64_t code = 0; code <= BRB_CODE_FREEZE + 1; code++) {
         check(is(brb_step(NULL, 0, NULL, 0, code, 1, 8, 0, 0, 0), 7), "brb_step: no state and no room");
         check(is(brb_step(NULL, 0, room, BRB_LARGEST_ROOM, code, 1, 8, 0, 0, 0), 7), "brb_step: no state");
     }
@@ -20,12 +20,12 @@ static void steps(void) {
     check(is(brb_read(state, BRB_STATE_NUMBERS, NULL, 0, 1, 0), 3), "brb_read: no room, before a reset");
     brb_step(state, BRB_STATE_NUMBERS, room, BRB_LARGEST_ROOM, BRB_CODE_RESET, 0, 64, 1, 0, 0);
     for (uint64_t reg = 0; reg < 128; reg++) {
-        uint64_t number = reg > 3 && reg < 32 ? 4 : 6;
+        uint64_t number = reg > BRB_REGISTER_BRBTS_EL1 && reg < 32 ? 4 : 6;
         check(is(brb_read(state, BRB_STATE_NUMBERS, NULL, 0, 1, reg), number), "brb_read: no room");
     }
-    static const uint64_t permitted[10][2] = {{64, 0}, {BRB_TYPE_RTN, 0}, {BRB_TYPE_IRQ, 3}, {3, 0}, {49, 0},
-                                              {32, 0}, {3, 0},            {0, 0},            {4, 0}, {4, 3}};
-    for (uint64_t code = 0; code <= 9; code++) {
+    static const uint64_t permitted[][2] = {{64, 0}, {BRB_TYPE_RTN, 0}, {BRB_TYPE_IRQ, 3}, {3, 0}, {49, 0}, {32, 0},
+                                            {3, 0},  {0, 0},            {4, 0},            {4, 3}, {1, 4}};
+    for (uint64_t code = 0; code <= BRB_CODE_FREEZE; code++) {
         const uint64_t *f = permitted[code];
         struct brb_answer answer = brb_step(state, BRB_STATE_NUMBERS, NULL, 0, code, 1, f[0], f[1], 0, 0);
         check(is(answer, code == BRB_CODE_RESUME ? 8 : 6), "brb_step: no room, after a reset");
@@ -61,8 +61,10 @@ static void recordings(void) {
         check(is(brb_recording_read(NULL, 0, at, place, BRB_OPERATION_NUMBERS), 1), "brb_recording_read: no bytes");
         check(is(brb_recording_read(NULL, 0, at, NULL, 0), 6), "brb_recording_read: no bytes and no place");
         check(is(brb_recording_read(reset, sizeof reset, at, NULL, 0), 6), "brb_recording_read: no place");
-        for (uint64_t code = 0; code <= 10; code++)
-            check(is(brb_recording_write(NULL, 0, at, code, 1, 2, 3, 4, 5), code > 9 ? 2 : 6), "brb_recording_write");
+        for (uint64_t code = 0; code <= BRB_CODE_FREEZE + 1; code++) {
+            uint64_t number = code > BRB_CODE_FREEZE ? 2 : 6;
+            check(is(brb_recording_write(NULL, 0, at, code, 1, 2, 3, 4, 5), number), "brb_recording_write");
+        }
     }
 }
 

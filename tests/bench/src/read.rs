@@ -6,7 +6,7 @@
 
 use crate::branches::{self, Numbers};
 use crate::{median, Options};
-use model::{Document01, Recordings};
+use model::{Document01, Recordings, LAST_CODE};
 use std::hint::black_box;
 use std::time::Instant;
 
@@ -63,8 +63,8 @@ fn assert_alike(bytes: &[u8], at: usize, place_numbers: usize) -> brb::Answer {
 /// Numbers of one byte and of two, of ten, and what is none, cut off or too long.
 const EDGES: [&[u8]; 12] = [
     &[0x00],
-    &[0x09],
     &[0x0A],
+    &[0x0B],
     &[0x7F],
     &[0x80],
     &[0x80, 0x00],
@@ -86,7 +86,7 @@ fn assert_same(bytes: &[u8]) {
     }
     assert_alike(bytes, usize::MAX, 6);
     for (code, place, edge) in
-        (0..=9).flat_map(|code| (0..6).flat_map(move |place| EDGES.map(|edge| (code, place, edge))))
+        (0..=LAST_CODE as u8).flat_map(|code| (0..6).flat_map(move |place| EDGES.map(|edge| (code, place, edge))))
     {
         let before = [code, 0x7F, 0x00, 0x01, 0x7F, 0x00];
         let bytes = [&before[..place], edge, &before[place + 1..]].concat();

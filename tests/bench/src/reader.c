@@ -43,14 +43,14 @@ static struct brb_answer answer(uint64_t number, uint64_t value)
 
 struct brb_answer bench_recording_read(const uint8_t *bytes, size_t length, size_t at, uint64_t *place, size_t place_numbers)
 {
-    static const uint8_t fields[10] = {2, 4, 4, 4, 1, 1, 2, 0, 1, 2};
+    static const uint8_t fields[] = {2, 4, 4, 4, 1, 1, 2, 0, 1, 2, 4};
     uint64_t numbers[6] = {0};
     if (place_numbers < 6)
         return answer(6, 0);
     size_t next = read_number(bytes, length, at, &numbers[0]);
     if (next == 0)
         return answer(1, 0);
-    if (numbers[0] > 9)
+    if (numbers[0] >= sizeof fields)
         return answer(2, 0);
     size_t count = fields[numbers[0]] + 2u;
     for (size_t i = 1; i < count; i++) {

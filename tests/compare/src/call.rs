@@ -1,3 +1,4 @@
+use model::{Document01, Operation, Rules};
 use std::fmt;
 
 /// One operation as six numbers: code, cycles and four fields.
@@ -16,6 +17,12 @@ impl Call {
     /// Codes 1, 2 and 3, and halts and resumes, 8 and 9.
     pub fn is_event(&self) -> bool {
         matches!(self.code(), 1..=3 | 8 | 9)
+    }
+
+    /// The operation that it is, none where one of its own fields is outside its list.
+    pub fn operation(&self) -> Option<Operation> {
+        let [code, _, fields @ ..] = self.0;
+        Document01.operation(code, fields)
     }
 
     /// How many of the six numbers belong to the operation; an unknown code has none but itself and cycles.

@@ -18,8 +18,8 @@ const BASE: u64 = 1 << 40;
 /// How many operations pass between two looks at all the records.
 const INTERVAL: usize = 16;
 /// What the sequences are mostly about.
-const FLAVOURS: [Flavour; 5] =
-    [Flavour::Recording, Flavour::Recording, Flavour::Boundary, Flavour::Roaming, Flavour::Halting];
+const FLAVOURS: [Flavour; 6] =
+    [Flavour::Recording, Flavour::Recording, Flavour::Boundary, Flavour::Roaming, Flavour::Halting, Flavour::Freezing];
 
 /// When each event of a sequence happened, by the cycles of accepted operations.
 #[derive(Default)]

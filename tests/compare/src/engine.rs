@@ -130,9 +130,12 @@ impl Lent {
     }
 }
 
+/// A state's numbers by name.
+const STATE_NAMES: [&str; model::State::NUMBERS] =
+    ["level", "size", "v1p1", "P", "BRBCR_EL1", "BRBCR_EL2", "BRBFCR_EL1", "count", "unknown", "halted", "BRBTS_EL1"];
+
 fn state_place(place: usize) -> String {
-    let names = ["level", "size", "v1p1", "P", "BRBCR_EL1", "BRBCR_EL2", "BRBFCR_EL1", "count", "unknown", "halted"];
-    format!("state number {place} ({})", names.get(place).unwrap_or(&"past the state"))
+    format!("state number {place} ({})", STATE_NAMES.get(place).unwrap_or(&"past the state"))
 }
 
 fn room_place(place: usize) -> String {

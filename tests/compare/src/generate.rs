@@ -4,11 +4,15 @@
 use crate::engine::Lent;
 use crate::shares::REASONS;
 use crate::{Call, Random, Single};
-use model::{BranchType, Platform, State, CONTROL_MASK, EXCEPTION_TYPES, FILTER_MASK, LAST_CODE};
+use model::{BranchType, Platform, State, CONTROL_MASK, EXCEPTION_TYPES, FILTER_MASK, LAST_CODE, PAUSED};
 use std::collections::VecDeque;
 
 const SIZES: [u64; 4] = [8, 16, 32, 64];
 const LIMIT: u64 = 1_048_576;
+/// TS and FZP of BRBCR_EL1 or BRBCR_EL2, by which freezes go.
+const FREEZE_BITS: u64 = 0x160;
+/// Where a count of the processor's clock or an offset begins, turns and ends.
+const CLOCK_EDGES: [u64; 6] = [0, 1, (1 << 63) - 1, 1 << 63, u64::MAX - 1, u64::MAX];
 
 /// What a sequence is mostly about.
 #[derive(Clone, Copy, Debug, PartialEq, Eq)]
@@ -23,17 +27,20 @@ pub enum Flavour {
     Accessing,
     /// As `Roaming`, with a halt or a resume every few operations.
     Halting,
+    /// As `Recording`, with a freeze every few operations.
+    Freezing,
     /// Every other operation has a mistake.
     Careless,
 }
 
 impl Flavour {
-    pub const ALL: [Flavour; 6] = [
+    pub const ALL: [Flavour; 7] = [
         Flavour::Recording,
         Flavour::Roaming,
         Flavour::Boundary,
         Flavour::Accessing,
         Flavour::Halting,
+        Flavour::Freezing,
         Flavour::Careless,
     ];
 
@@ -41,12 +48,13 @@ impl Flavour {
     /// becomes of it then ([`Generator::taken_while_halted`]).
     fn weights(self) -> [u64; MISTAKE + 1] {
         match self {
-            Flavour::Recording => [2, 600, 150, 150, 10, 40, 30, 4, 10, 0, 10],
-            Flavour::Roaming => [10, 200, 200, 200, 80, 100, 150, 10, 20, 10, 40],
-            Flavour::Boundary => [2, 500, 150, 150, 10, 40, 40, 10, 20, 0, 10],
-            Flavour::Accessing => [5, 30, 100, 150, 60, 350, 200, 80, 20, 10, 20],
-            Flavour::Halting => [10, 150, 100, 100, 60, 60, 80, 10, 150, 150, 40],
-            Flavour::Careless => [40, 100, 100, 100, 50, 60, 60, 20, 50, 30, 500],
+            Flavour::Recording => [2, 600, 150, 150, 10, 40, 30, 4, 10, 0, 3, 10],
+            Flavour::Roaming => [10, 200, 200, 200, 80, 100, 150, 10, 20, 10, 30, 40],
+            Flavour::Boundary => [2, 500, 150, 150, 10, 40, 40, 10, 20, 0, 5, 10],
+            Flavour::Accessing => [5, 30, 100, 150, 60, 350, 200, 80, 20, 10, 10, 20],
+            Flavour::Halting => [10, 150, 100, 100, 60, 60, 80, 10, 150, 150, 30, 40],
+            Flavour::Freezing => [5, 200, 100, 100, 20, 40, 100, 4, 20, 10, 350, 10],
+            Flavour::Careless => [40, 100, 100, 100, 50, 60, 60, 20, 50, 30, 60, 560],
         }
     }
 }
@@ -60,12 +68,17 @@ struct Seen {
     platform: u64,
     count: u64,
     halted: bool,
+    paused: bool,
 }
 
 impl Seen {
+    /// EL3, where a reset leads to.
+    const AT_EL3: Seen = Seen { level: 3, platform: 0, count: 0, halted: false, paused: false };
+
     fn new(state: &[u64]) -> Seen {
         let number = |place: usize| state.get(place).copied().unwrap_or(0);
-        Seen { level: number(0).min(3), platform: number(3), count: number(7), halted: number(9) == 1 }
+        let (halted, paused) = (number(9) == 1, number(6) & PAUSED != 0);
+        Seen { level: number(0).min(3), platform: number(3), count: number(7), halted, paused }
     }
 
     fn el2_enabled(&self) -> bool {
@@ -117,6 +130,9 @@ impl<'r> Generator<'r> {
             return call;
         }
         let seen = Seen::new(state);
+        if seen.paused && self.random.percent(10) {
+            return self.towards_recording(&seen);
+        }
         match self.weighted() {
             0 => {
                 self.queue_reset();
@@ -125,6 +141,16 @@ impl<'r> Generator<'r> {
             MISTAKE => self.mistaken(&seen),
             code => self.valid(code as u64, &seen),
         }
+    }
+
+    /// A write that clears PAUSED, after which events are recorded again. EL0 cannot write, so that an exception leads away
+    /// from there first.
+    fn towards_recording(&mut self, seen: &Seen) -> Call {
+        if seen.level == 0 {
+            return self.valid(2, seen);
+        }
+        let (cycles, filter) = (self.cycles(seen), self.filter() & !PAUSED);
+        Call([6, cycles, 3, filter, 0, 0])
     }
 
     fn weighted(&mut self) -> usize {
@@ -146,9 +172,8 @@ impl<'r> Generator<'r> {
         if self.random.percent(10) {
             return;
         }
-        let at_el3 = Seen { level: 3, platform: 0, count: 0, halted: false };
-        let platform = self.valid(4, &at_el3);
-        let seen = Seen { platform: platform.0[2], ..at_el3 };
+        let platform = self.valid(4, &Seen::AT_EL3);
+        let seen = Seen { platform: platform.0[2], ..Seen::AT_EL3 };
         let (cr1, cr2, fcr) = (self.control(), self.control(), self.filter());
         self.queue.push_back(platform);
         for (register, value) in [(1, cr1), (2, cr2), (3, fcr)] {
@@ -179,6 +204,7 @@ impl<'r> Generator<'r> {
             0 | 1 => 5,
             2 => 6,
             3 => 7,
+            4 => 10,
             _ => 9,
         }
     }
@@ -199,6 +225,7 @@ impl<'r> Generator<'r> {
             }
             8 => [self.address(), self.beyond(), self.beyond(), self.beyond()],
             9 => [self.address(), self.resume_level(seen), self.beyond(), self.beyond()],
+            10 => self.freeze(),
             _ => [self.beyond(), self.beyond(), self.beyond(), self.beyond()],
         };
         let [a, b, c, d] = fields;
@@ -295,6 +322,30 @@ impl<'r> Generator<'r> {
         }
     }
 
+    /// A freeze's group, its count and its two offsets.
+    fn freeze(&mut self) -> [u64; 4] {
+        let physical = self.clock();
+        [self.random.below(2), physical, self.offset(physical), self.offset(physical)]
+    }
+
+    /// A count of the processor's clock.
+    fn clock(&mut self) -> u64 {
+        match self.random.below(4) {
+            0 => self.random.one_of(&CLOCK_EDGES),
+            1 => self.random.of_length(64),
+            _ => self.random.number(),
+        }
+    }
+
+    /// An offset: any, or the count itself or one above it.
+    fn offset(&mut self, physical: u64) -> u64 {
+        match self.random.below(6) {
+            0 => physical,
+            1 => physical.wrapping_add(1),
+            _ => self.clock(),
+        }
+    }
+
     /// A number beyond an operation's own fields, which is not looked at.
     fn beyond(&mut self) -> u64 {
         if self.random.percent(50) {
@@ -342,18 +393,21 @@ impl<'r> Generator<'r> {
         }
         let mut platform = self.random.one_of(&[0x31, 0x31, 0x11, 0x32, 0x33, 0x30]);
         let rare = if self.flavour == Flavour::Accessing { 40 } else { 15 };
-        for bit in [2, 3, 8] {
-            platform |= u64::from(self.random.percent(rare)) << bit;
+        // FGTEn more often: without it no access traps to EL2.
+        for (bit, share) in [(2, rare), (3, rare), (8, rare + 15)] {
+            platform |= u64::from(self.random.percent(share)) << bit;
         }
         platform |= u64::from(self.random.percent(60)) << 6;
         platform | self.random.number() & 0x3E00
     }
 
-    /// A value for BRBCR_EL1 or BRBCR_EL2.
+    /// A value for BRBCR_EL1 or BRBCR_EL2. TS 0 is the most frequent: with it in BRBCR_EL2 that of BRBCR_EL1 decides.
     fn control(&mut self) -> u64 {
+        let (ts, fzp) = (self.random.one_of(&[0, 0, 0, 1, 2, 3]) << 5, u64::from(self.random.percent(80)) << 8);
+        let mostly = CONTROL_MASK & !FREEZE_BITS | ts | fzp;
         match self.random.below(20) {
-            0..=8 => CONTROL_MASK,
-            9..=14 => CONTROL_MASK & !(1 << self.random.below(24)),
+            0..=8 => mostly,
+            9..=14 => mostly & !(1 << self.random.below(24)),
             15..=17 => self.random.number() & CONTROL_MASK,
             18 => self.random.number(),
             _ => 0,
@@ -378,8 +432,9 @@ impl<'r> Generator<'r> {
 
     fn register(&mut self) -> u64 {
         match self.random.below(10) {
-            0..=3 => self.random.below(4),
-            4..=6 => 32 * (1 + self.random.below(3)) + self.random.below(9),
+            0..=3 => self.random.below(5),
+            4 => 4,
+            5 | 6 => 32 * (1 + self.random.below(3)) + self.random.below(9),
             _ => 32 + self.random.below(96),
         }
     }
@@ -387,7 +442,8 @@ impl<'r> Generator<'r> {
     fn write(&mut self) -> (u64, u64) {
         match self.random.below(20) {
             0 => (self.register(), self.random.number()),
-            1..=6 => (1, self.control()),
+            1 => (4, self.random.number()),
+            2..=6 => (1, self.control()),
             7..=12 => (2, self.control()),
             _ => (3, self.filter()),
         }
@@ -441,21 +497,24 @@ pub fn unsound(random: &mut Random, reason: usize) -> Vec<u64> {
     state
 }
 
-/// Ten sound numbers and up to three past them.
+/// The sound numbers of a state and up to three past them.
 fn sound_state(random: &mut Random) -> Vec<u64> {
     let flavour = random.one_of(&Flavour::ALL);
     let mut generator = Generator::midway(random, flavour);
     let platform = generator.platform();
     let (cr1, cr2) = (generator.control() & CONTROL_MASK, generator.control() & CONTROL_MASK);
-    let fcr = generator.filter() & FILTER_MASK;
-    let level = generator.level_of(&Seen { level: 0, platform, count: 0, halted: false }, 0, 3);
+    let paused = u64::from(generator.random.percent(10)) * PAUSED;
+    let fcr = generator.filter() & FILTER_MASK | paused;
+    let level = generator.level_of(&Seen { platform, ..Seen::AT_EL3 }, 0, 3);
+    let time = generator.clock();
     let size = if random.percent(4) { 0 } else { random.one_of(&SIZES) };
     let count = match random.below(4) {
         0 => random.one_of(&[0, 255, 256, 511, 513, LIMIT - 1, LIMIT]),
         _ => random.of_length(20),
     };
     let halted = u64::from(random.percent(25));
-    let mut state = vec![level, size, random.below(2), platform, cr1, cr2, fcr, count, random.below(2), halted];
+    let (v1p1, unknown) = (random.below(2), random.below(2));
+    let mut state = vec![level, size, v1p1, platform, cr1, cr2, fcr, count, unknown, halted, time];
     state.extend((0..random.below(4)).map(|_| random.number()));
     state
 }

@@ -70,15 +70,10 @@ fn at_level(state: &State, level: Level) -> usize {
 }
 
 fn target_level(call: Call) -> Option<Level> {
-    match operation(call)? {
+    match call.operation()? {
         Operation::Resume { to, .. } => Some(to),
         _ => None,
     }
-}
-
-fn operation(call: Call) -> Option<Operation> {
-    let [code, _, fields @ ..] = call.0;
-    Document01.operation(code, fields)
 }
 
 /// The classes of an answered operation among [`REFUSED_8`].
@@ -89,7 +84,7 @@ pub fn refused(state: &State, call: Call, number: u64, room: usize) -> Vec<usize
         9 if !state.halted => 4,
         _ => return Vec::new(),
     };
-    match (number, operation(call)) {
+    match (number, call.operation()) {
         (4, None) => vec![FOUR_FIRST],
         (8, Some(operation)) => {
             let five = !Document01.permits(state, &operation);

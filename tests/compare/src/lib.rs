@@ -9,6 +9,7 @@ pub mod batch;
 pub mod call;
 pub mod demand3;
 pub mod engine;
+mod freezes;
 pub mod generate;
 mod halts;
 pub mod programs;

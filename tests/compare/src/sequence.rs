@@ -3,7 +3,7 @@ use crate::shrink::{smaller, with_part_dropped};
 use crate::{Call, Case, Engine};
 use std::fmt;
 
-/// How many numbers are lent past the ten of a state.
+/// How many numbers are lent past those of a state.
 const STATE_MARGIN: usize = 3;
 
 /// Operations from a fresh state, in a room of so many numbers.

@@ -1,12 +1,12 @@
 //! Which outcomes were met, and how often: a generator that never records proves nothing.
 
 use crate::engine::Lent;
-use crate::{halts, Call, Since};
-use model::{Cause, Document01, Rules, Shape};
+use crate::{freezes, halts, Call, Since};
+use model::{Cause, Document01, Rules, Shape, State};
 use std::fmt;
 
 /// What is counted, in groups.
-const GROUPS: [(&str, &[&str]); 10] = [
+const GROUPS: [(&str, &[&str]); 15] = [
     (
         "answers",
         &[
@@ -73,6 +73,11 @@ const GROUPS: [(&str, &[&str]); 10] = [
         "counts and halts",
         &["known of a halt", "unknown by a resume alone", "unknown by others halted alone", "known after a resume's"],
     ),
+    ("freezes", &freezes::FROZEN),
+    ("differences of freezes", &freezes::DIFFERENCES),
+    ("freezes that do not happen", &freezes::NOT_FROZEN),
+    ("accesses to BRBTS_EL1", &freezes::ACCESSES),
+    ("while frozen", &freezes::WHILE_FROZEN),
 ];
 
 /// The groups by their places.
@@ -86,6 +91,11 @@ const RESUMES: usize = 6;
 const REFUSED_8: usize = 7;
 const WHILE_HALTED: usize = 8;
 const COUNTS_AND_HALTS: usize = 9;
+const FROZEN: usize = 10;
+const DIFFERENCES: usize = 11;
+const NOT_FROZEN: usize = 12;
+const ACCESSES: usize = 13;
+const WHILE_FROZEN: usize = 14;
 
 /// A group has at most so many classes.
 const MOST: usize = 14;
@@ -109,7 +119,10 @@ impl Shares {
     /// of the record, if there is one.
     pub fn note(&mut self, before: &[u64], call: Call, number: u64, room: &[u64]) -> Option<Cause> {
         self.met[ANSWERS][answer_class(number)] += 1;
-        self.note_halts(before, call, number, room.len());
+        if let Some(state) = Document01.sound(before).filter(|state| state.size != 0) {
+            self.note_halts(&state, call, number, room.len());
+            self.note_freezes(&state, call, number);
+        }
         if !call.is_event() || number != 0 {
             return None;
         }
@@ -122,28 +135,47 @@ impl Shares {
     }
 
     /// Notes what a halt has to do with an answered operation.
-    fn note_halts(&mut self, before: &[u64], call: Call, number: u64, room: usize) {
-        let Some(state) = Document01.sound(before).filter(|state| state.size != 0) else { return };
+    fn note_halts(&mut self, state: &State, call: Call, number: u64, room: usize) {
         let accepted = (number == 0).then_some(call);
-        let met = [
-            (HALTS, accepted.and_then(|call| halts::of_halt(&state, call))),
-            (RESUMES, accepted.and_then(|call| halts::of_resume(&state, call))),
-            (WHILE_HALTED, halts::while_halted(&state, call, number)),
-        ];
-        let refused = halts::refused(&state, call, number, room).into_iter().map(|class| (REFUSED_8, Some(class)));
-        for (group, class) in met.into_iter().chain(refused) {
+        let refused = halts::refused(state, call, number, room).into_iter().map(|class| (REFUSED_8, Some(class)));
+        self.count(refused);
+        self.count([
+            (HALTS, accepted.and_then(|call| halts::of_halt(state, call))),
+            (RESUMES, accepted.and_then(|call| halts::of_resume(state, call))),
+            (WHILE_HALTED, halts::while_halted(state, call, number)),
+        ]);
+    }
+
+    /// Notes what a freeze has to do with an answered operation.
+    fn note_freezes(&mut self, state: &State, call: Call, number: u64) {
+        let accepted = (number == 0).then_some(call);
+        let frozen = accepted.and_then(|call| freezes::of_freeze(state, call));
+        self.count([
+            (FROZEN, frozen.map(|(class, _)| class)),
+            (DIFFERENCES, frozen.and_then(|(_, difference)| difference)),
+            (NOT_FROZEN, freezes::of_none(state, call, number)),
+            (ACCESSES, freezes::of_access(state, call, number)),
+        ]);
+    }
+
+    /// Counts the class of each group that has one.
+    fn count(&mut self, classes: impl IntoIterator<Item = (usize, Option<usize>)>) {
+        for (group, class) in classes {
             class.into_iter().for_each(|class| self.met[group][class] += 1);
         }
     }
 
     /// The same of a sequence's operation, with what came since the last record.
     pub fn note_in_sequence(&mut self, since: &mut Since, before: &[u64], call: Call, number: u64, lent: &Lent) {
+        self.count([(WHILE_FROZEN, since.frozen_class(before, &lent.state, call, number))]);
         since.note(before, &lent.state, call, number);
         if let Some(cause) = self.note(before, call, number, &lent.room) {
             let count = count_class(lent.room[0]);
-            let iall = since.class(before, count).map(|class| (AFTER_IALL, class));
-            let halts = since.halt_class(before, cause, count).map(|class| (COUNTS_AND_HALTS, class));
-            iall.into_iter().chain(halts).for_each(|(group, class)| self.met[group][class] += 1);
+            self.count([
+                (AFTER_IALL, since.class(before, count)),
+                (COUNTS_AND_HALTS, since.halt_class(before, cause, count)),
+                (WHILE_FROZEN, since.freeze_class(before, count)),
+            ]);
             *since = Since::record(cause);
         }
     }
@@ -178,7 +210,7 @@ impl fmt::Display for Shares {
             }
             writeln!(f, "  {group}: {all}")?;
             for (name, &met) in names.iter().zip(met) {
-                writeln!(f, "    {name:<34}{met:>12}  {:5.1} %", met as f64 * 100.0 / all as f64)?;
+                writeln!(f, "    {name:<36}{met:>12}  {:5.1} %", met as f64 * 100.0 / all as f64)?;
             }
         }
         Ok(())

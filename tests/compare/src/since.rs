@@ -1,12 +1,12 @@
-//! What came since the last record of a sequence, as far as BRB IALL and halts go: a record does not say by itself why its count
-//! is unknown.
+//! What came since the last record of a sequence, as far as BRB IALL, halts and freezes go: a record does not say by itself why
+//! its count is unknown, nor PAUSED what set it.
 
 use crate::engine::is_refused;
 use crate::shares::{KNOWN, UNKNOWN};
-use crate::Call;
+use crate::{freezes, Call};
 use model::{Cause, Document01, Rules, State};
 
-/// The BRB IALLs and the operations that began halted since the last record.
+/// The BRB IALLs, the operations that began halted and the freezes since the last record.
 #[derive(Clone, Copy, Debug, Default)]
 pub struct Since {
     /// A BRB IALL was performed, and nothing else was an occasion.
@@ -17,6 +17,10 @@ pub struct Since {
     halted_alone: bool,
     /// The last record is a resume's.
     after_resume: bool,
+    /// A freeze happened, and PAUSED has been 1 since then.
+    frozen: bool,
+    /// A write cleared PAUSED after a freeze, and nothing else was an occasion.
+    cleared_alone: bool,
 }
 
 impl Since {
@@ -36,6 +40,7 @@ impl Since {
                 self.undefined |= (code, number) == (7, 100);
                 self.trapped |= code == 7 && matches!(number, 102 | 103);
                 self.note_occasions(&before, &after, (code, number) == (7, 0));
+                self.frozen = after.paused() && (self.frozen || code == 10 && !before.paused());
             }
         }
     }
@@ -44,9 +49,13 @@ impl Since {
         // Whatever was an occasion before it has set the flag.
         self.performed_alone |= performed_iall && !before.unknown;
         self.halted_alone |= before.halted && !before.unknown;
+        let cleared = self.frozen && !after.paused();
+        self.cleared_alone |= cleared && !before.unknown;
         let written = Document01.write_is_occasion(before, after);
-        self.performed_alone &= !written && !Document01.began_prohibited(before);
+        let prohibited = Document01.began_prohibited(before);
+        self.performed_alone &= !written && !prohibited;
         self.halted_alone &= !written && !performed_iall && !Document01.prohibited(before, before.level);
+        self.cleared_alone &= (cleared || !written) && !performed_iall && !prohibited;
     }
 
     /// The class of a record that an event made in a state, with a count of this class: unknown by a performed BRB IALL
@@ -70,6 +79,17 @@ impl Since {
             (KNOWN, _) if self.after_resume => Some(3),
             _ => None,
         }
+    }
+
+    /// The same by freezes: unknown by a write that cleared PAUSED after one alone.
+    pub fn freeze_class(&self, state: &[u64], count: usize) -> Option<usize> {
+        (count == UNKNOWN && self.cleared_alone && counting(state)).then_some(freezes::UNKNOWN_AFTER)
+    }
+
+    /// The class of an answered operation that began in the pause of a freeze, before it is noted.
+    pub fn frozen_class(&self, before: &[u64], after: &[u64], call: Call, number: u64) -> Option<usize> {
+        let (before, after) = (Document01.sound(before)?, Document01.sound(after)?);
+        self.frozen.then(|| freezes::while_frozen(&before, &after, call, number)).flatten()
     }
 }
 

@@ -36,7 +36,9 @@ fn single_calls_on_any_state() {
     let mut shares = Shares::default();
     match run::singles(ENGINES, &mut Random::new(seed), SINGLE_CALLS, &mut shares) {
         // What came since the last record is a sequence's.
-        Ok(agreed) => report("single calls", agreed, &shares, &["counts after BRB IALL", "counts and halts"]),
+        Ok(agreed) => {
+            report("single calls", agreed, &shares, &["counts after BRB IALL", "counts and halts", "while frozen"])
+        }
         Err(disagreement) => panic!("seed {seed}: {disagreement}"),
     }
 }

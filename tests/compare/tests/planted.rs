@@ -4,8 +4,8 @@
 use compare::seed::{self, say};
 use compare::{demand3, run, Engine, Library, Modelled, Random, Shares};
 use model::{
-    count, room, Access, Answer, BranchType, Cause, Document01, Event, Level, Operation, Outcome, Platform, Record,
-    Recordings, Refusal, Register, Rules, Shape, Side, State,
+    count, room, ts, Access, Answer, BranchType, Cause, Clock, Document01, Event, Group, Level, Operation, Outcome,
+    Platform, Record, Recordings, Refusal, Register, Rules, Shape, Side, State, LAST_CODE, PAUSED,
 };
 
 /// How many operations of each kind an error may hide from.
@@ -112,7 +112,7 @@ planted! {
     ("refusals 3 and 4 are swapped", Swapped34 {
         fn accept(&self, state: &[u64], room: usize, numbers: [u64; 6]) -> Result<(State, Operation), Refusal> {
             let [code, _, fields @ ..] = numbers;
-            let outside = code <= 9 && Document01.operation(code, fields).is_none();
+            let outside = code <= LAST_CODE && Document01.operation(code, fields).is_none();
             refused_first(state, room, numbers, |_| outside.then_some(Refusal::OutsideList))
         }
     })
@@ -142,7 +142,7 @@ planted! {
     })
     ("refusals 7 and 2 are swapped", Swapped72 {
         fn accept(&self, state: &[u64], room: usize, numbers: [u64; 6]) -> Result<(State, Operation), Refusal> {
-            if numbers[0] > 9 {
+            if numbers[0] > LAST_CODE {
                 return Err(Refusal::UnknownCode);
             }
             Document01.accept(state, room, numbers)
@@ -355,7 +355,7 @@ planted! {
     })
     ("PAUSED is not looked at", PausedRecords {
         fn shape(&self, state: &State, event: &Event) -> Option<Shape> {
-            let running = State { fcr: state.fcr & !0x80, ..*state };
+            let running = State { fcr: state.fcr & !PAUSED, ..*state };
             Document01.shape(&running, event)
         }
     })
@@ -536,7 +536,7 @@ planted! {
     ("PAUSED does not stop a halt's record", PausedHalt {
         fn shape(&self, state: &State, event: &Event) -> Option<Shape> {
             let halt = event.cause == Cause::Halt;
-            let running = State { fcr: if halt { state.fcr & !0x80 } else { state.fcr }, ..*state };
+            let running = State { fcr: if halt { state.fcr & !PAUSED } else { state.fcr }, ..*state };
             Document01.shape(&running, event)
         }
     })
@@ -575,14 +575,14 @@ planted! {
             Document01.sound(&numbers)
         }
     })
-    ("a state of nine numbers is enough", NineNumbers {
+    ("a state of ten numbers is enough", TenNumbers {
         fn step(&self, state: &mut [u64], room: &mut [u64], numbers: [u64; 6]) -> Answer {
-            if state.len() != 9 {
+            if state.len() != 10 {
                 return Document01.step(state, room, numbers);
             }
-            let mut ten = [&state[..], &[0]].concat();
-            let answer = Document01.step(&mut ten, room, numbers);
-            state.copy_from_slice(&ten[..9]);
+            let mut eleven = [&state[..], &[0]].concat();
+            let answer = Document01.step(&mut eleven, room, numbers);
+            state.copy_from_slice(&eleven[..10]);
             answer
         }
     })
@@ -599,9 +599,14 @@ planted! {
             }
         }
     })
-    ("the last code is still 7", LastCode7 {
+    ("the last code is still 9", LastCode9 {
         fn last_code(&self) -> u64 {
-            7
+            9
+        }
+    })
+    ("the last code is 11", LastCode11 {
+        fn last_code(&self) -> u64 {
+            11
         }
     })
     ("the types of a halt and a resume are swapped", TypesSwapped {
@@ -614,6 +619,164 @@ planted! {
     ("a resume's fields are swapped", ResumeFieldsSwapped {
         fn operation(&self, code: u64, [a, b, c, d]: [u64; 4]) -> Option<Operation> {
             Document01.operation(code, if code == 9 { [b, a, c, d] } else { [a, b, c, d] })
+        }
+    })
+    ("an offset above the count makes the time 0", Saturating {
+        fn difference(&self, count: u64, offset: u64) -> u64 {
+            count.saturating_sub(offset)
+        }
+    })
+    ("BRBCR_EL1's TS goes first", Ts1First {
+        fn deciding_ts(&self, state: &State) -> u64 {
+            Document01.deciding_ts(&State { cr1: state.cr2, cr2: state.cr1, ..*state })
+        }
+    })
+    ("the group's register has the TS", TsOfGroup {
+        fn freeze(&self, state: &mut State, group: Group, clock: &Clock) {
+            if self.freezes(state, group) {
+                let control = self.group_control(state, group);
+                let time = self.time(&State { cr1: control, cr2: control, ..*state }, clock);
+                self.frozen(state, time);
+            }
+        }
+    })
+    ("the virtual and the guest offset are swapped", OffsetsSwapped {
+        fn time(&self, state: &State, clock: &Clock) -> u64 {
+            let Clock { physical, virtual_offset, guest_offset } = *clock;
+            Document01.time(state, &Clock { physical, virtual_offset: guest_offset, guest_offset: virtual_offset })
+        }
+    })
+    ("the time is the physical count whatever TS is", AlwaysPhysical {
+        fn time(&self, _: &State, clock: &Clock) -> u64 {
+            clock.physical
+        }
+    })
+    ("a freeze with both TS 0 keeps the old time", OldTimeWithoutTs {
+        fn frozen(&self, state: &mut State, time: u64) {
+            let old = state.time;
+            Document01.frozen(state, time);
+            if ts(state.cr1) | ts(state.cr2) == 0 {
+                state.time = old;
+            }
+        }
+    })
+    ("a freeze clears the other bits of BRBFCR_EL1", FilterCleared {
+        fn frozen(&self, state: &mut State, time: u64) {
+            Document01.frozen(state, time);
+            state.fcr = PAUSED;
+        }
+    })
+    ("a prohibited level freezes", ProhibitedFreezes {
+        fn freezes(&self, state: &State, group: Group) -> bool {
+            self.freeze_asked(state, group) && !state.halted && !state.paused()
+        }
+    })
+    ("a halted processor freezes", HaltedFreezes {
+        fn freezes(&self, state: &State, group: Group) -> bool {
+            Document01.freezes(&State { halted: false, ..*state }, group)
+        }
+    })
+    ("a freeze while PAUSED is 1 takes the time", PausedFreezes {
+        fn freezes(&self, state: &State, group: Group) -> bool {
+            Document01.freezes(&State { fcr: state.fcr & !PAUSED, ..*state }, group)
+        }
+    })
+    ("FZP is not asked", FreezeNotAsked {
+        fn freeze_asked(&self, _: &State, _: Group) -> bool {
+            true
+        }
+    })
+    ("the groups' registers are swapped", GroupsSwapped {
+        fn group_control(&self, state: &State, group: Group) -> u64 {
+            Document01.group_control(&State { cr1: state.cr2, cr2: state.cr1, ..*state }, group)
+        }
+    })
+    ("a freeze that does not happen takes the time", TimeAllTheSame {
+        fn freeze(&self, state: &mut State, group: Group, clock: &Clock) {
+            let time = self.time(state, clock);
+            Document01.freeze(state, group, clock);
+            state.time = time;
+        }
+    })
+    ("a freeze is an occasion", FreezeOccasion {
+        fn frozen(&self, state: &mut State, time: u64) {
+            Document01.frozen(state, time);
+            state.unknown = true;
+        }
+    })
+    ("a freeze's cycles do not count", FreezeCyclesLost {
+        fn perform(&self, state: &mut State, room: &mut [u64], operation: Operation, cycles: u64) -> Answer {
+            let freeze = matches!(operation, Operation::Freeze { .. });
+            Document01.perform(state, room, operation, if freeze { 0 } else { cycles })
+        }
+    })
+    ("a freeze is refused while halted", FreezeWhileHalted {
+        fn wrongly_halted(&self, state: &State, operation: &Operation) -> bool {
+            state.halted && matches!(operation, Operation::Freeze { .. }) || Document01.wrongly_halted(state, operation)
+        }
+    })
+    ("group 2 is group 1", GroupTwo {
+        fn operation(&self, code: u64, [a, b, c, d]: [u64; 4]) -> Option<Operation> {
+            Document01.operation(code, [if (code, a) == (10, 2) { 1 } else { a }, b, c, d])
+        }
+    })
+    ("a freeze's group is judged after the room", GroupAfterRoom {
+        fn accept(&self, state: &[u64], room: usize, numbers: [u64; 6]) -> Result<(State, Operation), Refusal> {
+            match Document01.accept(state, room, numbers) {
+                Err(Refusal::OutsideList) if numbers[0] == 10 && room < 3 * state[1] as usize => {
+                    Err(Refusal::RoomTooShort)
+                }
+                other => other,
+            }
+        }
+    })
+    ("a read of BRBTS_EL1 traps by nBRBIDR", TimeByIdr {
+        fn n_bit(&self, platform: Platform, access: Access) -> bool {
+            match access {
+                Access::Read(Register::Ts) => platform.n_brbidr(),
+                _ => Document01.n_bit(platform, access),
+            }
+        }
+    })
+    ("a write of BRBTS_EL1 sets it", TimeWritten {
+        fn never_written(&self, access: Access) -> bool {
+            access != Access::Write(Register::Ts) && Document01.never_written(access)
+        }
+        fn write(&self, state: &mut State, register: Register, value: u64) {
+            match register {
+                Register::Ts => state.time = value,
+                _ => Document01.write(state, register, value),
+            }
+        }
+    })
+    ("a write of BRBTS_EL1 is undefined only where a read is performed", TimeWriteTrapped {
+        fn outcome(&self, state: &State, access: Access) -> Outcome {
+            match (access, Document01.outcome(state, Access::Read(Register::Ts))) {
+                (Access::Write(Register::Ts), trap @ (Outcome::Trap2 | Outcome::Trap3)) => trap,
+                _ => Document01.outcome(state, access),
+            }
+        }
+    })
+    ("a write that clears PAUSED clears BRBTS_EL1", TimeCleared {
+        fn write(&self, state: &mut State, register: Register, value: u64) {
+            let paused = state.paused();
+            Document01.write(state, register, value);
+            if paused && !state.paused() {
+                state.time = 0;
+            }
+        }
+    })
+    ("a reset keeps BRBTS_EL1", TimeAfterReset {
+        fn reset(&self, state: &mut State, room: &mut [u64], size: usize, v1p1: bool) {
+            let time = state.time;
+            Document01.reset(state, room, size, v1p1);
+            state.time = time;
+        }
+    })
+    ("BRB IALL clears BRBTS_EL1", TimeAfterIall {
+        fn invalidate_all(&self, state: &mut State, room: &mut [u64]) {
+            Document01.invalidate_all(state, room);
+            state.time = 0;
         }
     })
 }

@@ -119,6 +119,16 @@ planted! {
             shown(9, 1, self.hexadecimal(fields[1]), code, fields)
         }
     })
+    ("a freeze's offsets are swapped", FreezeOffsets: Lines {
+        fn fields(&self, code: u64, fields: [u64; 4]) -> Vec<Field> {
+            swapped(10, [2, 3], code, fields)
+        }
+    })
+    ("a freeze's count is in decimal", FreezeDecimal: Lines {
+        fn fields(&self, code: u64, fields: [u64; 4]) -> Vec<Field> {
+            shown(10, 1, self.decimal(fields[1]), code, fields)
+        }
+    })
     ("a read shows a value", ReadValue: Lines {
         fn fields(&self, code: u64, fields: [u64; 4]) -> Vec<Field> {
             Document01.fields(if code == 5 { 6 } else { code }, fields)
@@ -261,9 +271,14 @@ planted! {
             Document01.register(if matches!(number, 1 | 2) { 3 - number } else { number })
         }
     })
-    ("register 4 is BRBCR_EL12", RegisterFour: Lines {
+    ("register 4 is a number", RegisterFour: Lines {
         fn register(&self, number: u64) -> String {
-            if number == 4 { "BRBCR_EL12".into() } else { Document01.register(number) }
+            if number == 4 { self.decimal(number) } else { Document01.register(number) }
+        }
+    })
+    ("register 5 is BRBCR_EL12", RegisterFive: Lines {
+        fn register(&self, number: u64) -> String {
+            if number == 5 { "BRBCR_EL12".into() } else { Document01.register(number) }
         }
     })
     ("registers from 128 on begin again", RegistersAgain: Lines {
@@ -362,9 +377,9 @@ planted! {
             Listing { bad: listing.bad.or((end < bytes.len()).then_some(end)), ..listing }
         }
     })
-    ("the last code is still 7", LastCode7: Recordings {
+    ("the last code is still 9", LastCode9: Recordings {
         fn fields_read(&self, code: u64) -> Option<usize> {
-            model::own_fields(code).filter(|_| code <= 7)
+            model::own_fields(code).filter(|_| code <= 9)
         }
     })
     ("the byte is that of the operation", ByteOfOperation: Recordings {

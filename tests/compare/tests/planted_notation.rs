@@ -297,9 +297,9 @@ planted! {
             Document01.bytes_of(&known)
         }
     })
-    ("the last code is still 7", LastCode7 {
+    ("the last code is still 9", LastCode9 {
         fn is_whole(&self, code: u64, numbers: usize) -> bool {
-            code <= 7 && Document01.is_whole(code, numbers)
+            code <= 9 && Document01.is_whole(code, numbers)
         }
     })
     ("a resume's target and level are swapped", ResumeSwapped {
@@ -313,6 +313,11 @@ planted! {
     ("a resume without its level is packed", ResumeWithoutLevel {
         fn is_whole(&self, code: u64, numbers: usize) -> bool {
             (code, numbers) == (9, 3) || Document01.is_whole(code, numbers)
+        }
+    })
+    ("a freeze without its guest offset is packed", FreezeWithoutGuest {
+        fn is_whole(&self, code: u64, numbers: usize) -> bool {
+            (code, numbers) == (10, 5) || Document01.is_whole(code, numbers)
         }
     })
     ("a halt has a target", HaltWithTarget {

@@ -6,7 +6,7 @@ use compare::run::Disagreement;
 use compare::seed::{self, say};
 use compare::{Engine, Library, Modelled, Random};
 use model::recording::{RecordedStep, Stop};
-use model::{Answer, Document01, Recordings, Refusal, Rules};
+use model::{Answer, Document01, Recordings, Refusal, Rules, LAST_CODE};
 
 /// How many operations of each kind an error may hide from.
 const OPERATIONS: u64 = 100_000;
@@ -110,14 +110,19 @@ planted! {
             bytes
         }
     })
-    ("the reader's last code is still 7", ReaderLastCode7 {
+    ("the reader's last code is still 9", ReaderLastCode9 {
         fn fields_read(&self, code: u64) -> Option<usize> {
-            model::own_fields(code).filter(|_| code <= 7)
+            model::own_fields(code).filter(|_| code <= 9)
         }
     })
-    ("the reader takes a code 10", ReaderCode10 {
+    ("the reader takes a code 11", ReaderCode11 {
         fn fields_read(&self, code: u64) -> Option<usize> {
-            if code == 10 { Some(0) } else { model::own_fields(code) }
+            if code == 11 { Some(0) } else { model::own_fields(code) }
+        }
+    })
+    ("a freeze is read without its guest offset", FreezeWithoutGuest {
+        fn fields_read(&self, code: u64) -> Option<usize> {
+            if code == 10 { Some(3) } else { model::own_fields(code) }
         }
     })
     ("a resume is read without its level", ResumeWithoutLevel {
@@ -130,14 +135,14 @@ planted! {
             if code == 8 { Some(2) } else { model::own_fields(code) }
         }
     })
-    ("the writer's last code is still 7", WriterLastCode7 {
+    ("the writer's last code is still 9", WriterLastCode9 {
         fn fields_written(&self, code: u64) -> Option<usize> {
-            model::own_fields(code).filter(|_| code <= 7)
+            model::own_fields(code).filter(|_| code <= 9)
         }
     })
-    ("the writer takes a code 10", WriterCode10 {
+    ("the writer takes a code 11", WriterCode11 {
         fn fields_written(&self, code: u64) -> Option<usize> {
-            if code == 10 { Some(0) } else { model::own_fields(code) }
+            if code == 11 { Some(0) } else { model::own_fields(code) }
         }
     })
     ("an unknown code is judged after its cycles", CodeAfterCycles {
@@ -156,7 +161,9 @@ planted! {
     ("an unknown code is 2 in any form", CodeInAnyForm {
         fn read_operation(&self, bytes: &[u8], at: usize) -> Result<([u64; 6], usize), Stop> {
             match (Document01.read_operation(bytes, at), NotShortest.read_number(bytes, at)) {
-                (Err(stop), Some((10.., _))) => Err(Stop { refusal: Refusal::UnknownCode, ..stop }),
+                (Err(stop), Some((code, _))) if code > LAST_CODE => {
+                    Err(Stop { refusal: Refusal::UnknownCode, ..stop })
+                }
                 (read, _) => read,
             }
         }
@@ -271,7 +278,7 @@ planted! {
     })
     ("the writer needs room for the longest operation", RoomForLongest {
         fn write_operation(&self, room: &mut [u8], at: usize, numbers: [u64; 6]) -> Result<usize, Refusal> {
-            let short = numbers[0] <= 9 && room.len().saturating_sub(at) < 60;
+            let short = numbers[0] <= LAST_CODE && room.len().saturating_sub(at) < 60;
             if short { Err(Refusal::RoomTooShort) } else { Document01.write_operation(room, at, numbers) }
         }
     })
@@ -290,7 +297,7 @@ planted! {
     ("the writer checks the fields", FieldsChecked {
         fn write_operation(&self, room: &mut [u8], at: usize, numbers: [u64; 6]) -> Result<usize, Refusal> {
             let [code, _, fields @ ..] = numbers;
-            let outside = code <= 9 && Document01.operation(code, fields).is_none();
+            let outside = code <= LAST_CODE && Document01.operation(code, fields).is_none();
             if outside { Err(Refusal::OutsideList) } else { Document01.write_operation(room, at, numbers) }
         }
     })

@@ -120,7 +120,7 @@ mod tests {
             assert_eq!(lent.answers[..16], [0; 16]);
             assert_eq!(lent.answers[16..24], S1_READS);
             assert!(lent.answers[24..].iter().all(|&number| number == BEFORE), "{numbers} numbers");
-            assert_eq!(lent.state, [1, 8, 0, 49, 10, 8, 65536, 0, 0, 0]);
+            assert_eq!(lent.state, [1, 8, 0, 49, 10, 8, 65536, 0, 0, 0, 0]);
             assert_eq!(lent.room[..2], [0x0000_012C_0000_0843, 0x1010]);
         }
         for numbers in [23, 22, 0] {
@@ -141,7 +141,7 @@ mod tests {
 
     #[test]
     fn an_unknown_code_is_the_last_that_is_answered() {
-        let run = bytes("0 0 8 0 / 10 / 5 0 0");
+        let run = bytes("0 0 8 0 / 11 / 5 0 0");
         let mut lent = Lent::fresh(24, 6);
         assert_eq!(lent.batch(&run), Ok(2));
         assert_eq!(lent.answers, [0, 0, 2, 0, BEFORE, BEFORE]);
@@ -160,7 +160,7 @@ mod tests {
 
     #[test]
     fn soundness_is_judged_first() {
-        for run in ["", "0 0 8 0", "10", "0 0 8 0 / 10"] {
+        for run in ["", "0 0 8 0", "11", "0 0 8 0 / 11"] {
             let mut lent = Lent::fresh(24, 0);
             lent.state[0] = 4;
             lent.refused(&bytes(run), Refusal::NotSound);

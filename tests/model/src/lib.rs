@@ -21,6 +21,7 @@ pub mod bank;
 pub mod batch;
 pub mod count;
 mod event;
+mod freeze;
 mod level;
 pub mod lines;
 pub mod notation;
@@ -39,6 +40,7 @@ pub use answer::{Answer, Refusal};
 pub use batch::Batches;
 pub use count::Counts;
 pub use event::{Cause, Event, Record, Shape, Side};
+pub use freeze::{ts, Clock, Group};
 pub use level::Level;
 pub use lines::Lines;
 pub use notation::Notation;
@@ -46,7 +48,7 @@ pub use operation::{exception_type, own_fields, BranchType, Operation, Part, Reg
 pub use platform::Platform;
 pub use recording::Recordings;
 pub use rules::{Document01, Rules};
-pub use state::{buffer_size, State, CONTROL_MASK, FILTER_MASK};
+pub use state::{buffer_size, State, CONTROL_MASK, FILTER_MASK, PAUSED};
 
 /// Whether bit `n` of a number is 1.
 pub(crate) fn bit(number: u64, n: u32) -> bool {

@@ -23,6 +23,10 @@ pub struct Listing {
     pub bad: Option<usize>,
 }
 
+/// The operations' words, by their codes.
+const WORDS: [&str; 11] =
+    ["reset", "branch", "exception", "return", "platform", "read", "write", "iall", "halt", "resume", "freeze"];
+
 /// A field's name and what is shown of it.
 pub type Field = (&'static str, String);
 
@@ -64,8 +68,7 @@ pub trait Lines: Recordings {
 
     /// The word that a line begins with.
     fn word(&self, code: u64) -> &'static str {
-        let words = ["reset", "branch", "exception", "return", "platform", "read", "write", "iall", "halt", "resume"];
-        words[code as usize]
+        WORDS[code as usize]
     }
 
     /// The table of lines.
@@ -81,9 +84,20 @@ pub trait Lines: Recordings {
             6 => return vec![("register", self.register(a)), ("value", self.value(b))],
             8 => return vec![("source", self.hexadecimal(a))],
             9 => return vec![("target", self.hexadecimal(a)), ("target_level", self.decimal(b))],
+            10 => return self.freeze_fields([a, b, c, d]),
             _ => return vec![],
         };
         own.into_iter().chain(addresses).collect()
+    }
+
+    /// A freeze's count and its offsets are shown as addresses are, its group as a level is.
+    fn freeze_fields(&self, [group, physical, virtual_offset, guest_offset]: [u64; 4]) -> Vec<Field> {
+        vec![
+            ("group", self.decimal(group)),
+            ("physical", self.hexadecimal(physical)),
+            ("virtual_offset", self.hexadecimal(virtual_offset)),
+            ("guest_offset", self.hexadecimal(guest_offset)),
+        ]
     }
 
     /// Of what has no other rule.
@@ -135,6 +149,7 @@ pub trait Lines: Recordings {
             Some(Register::Cr1) => "BRBCR_EL1".into(),
             Some(Register::Cr2) => "BRBCR_EL2".into(),
             Some(Register::Fcr) => "BRBFCR_EL1".into(),
+            Some(Register::Ts) => "BRBTS_EL1".into(),
             Some(Register::Record { part, m }) => self.record_register(part, m),
             None => self.decimal(number),
         }
@@ -174,12 +189,15 @@ mod tests {
         check([7, 0, 0, 0, 0, 0], "iall cycles=0");
         check([8, 100, 0x1004, 0, 0, 0], "halt cycles=100 source=0x1004");
         check([9, 5000, 0x1008, 1, 0, 0], "resume cycles=5000 target=0x1008 target_level=1");
+        let freeze = "freeze cycles=40 group=0 physical=0x3e8 virtual_offset=0x5dc guest_offset=0x0";
+        check([10, 40, 0, 1000, 1500, 0], freeze);
+        check([6, 0, 4, 1, 0, 0], "write cycles=0 register=BRBTS_EL1 value=0x1");
     }
 
     #[test]
     fn what_has_no_name() {
         assert_eq!(Document01.branch_type(4), "0x4");
-        assert_eq!(Document01.register(4), "4");
+        assert_eq!(Document01.register(5), "5");
         assert_eq!(Document01.register(95), "BRBSRC31");
         assert_eq!(Document01.register(96), "BRBTGT0");
         assert_eq!(Document01.register(128), "128");
@@ -191,6 +209,7 @@ mod tests {
     fn own_numbers_alone() {
         assert_eq!(Document01.numbers([7, 300, 1, 1, 1, 1]), "7 300");
         assert_eq!(Document01.numbers([6, 0, 3, u64::MAX, 1, 1]), "6 0 3 18446744073709551615");
+        assert_eq!(Document01.numbers([10, 40, 0, 1000, 1500, 7]), "10 40 0 1000 1500 7");
     }
 
     #[test]
@@ -199,7 +218,7 @@ mod tests {
         assert_eq!(Document01.list(&[], Form::Readable), listing("", None));
         assert_eq!(Document01.list(&[7, 0, 5, 0, 1], Form::Numbers), listing("7 0\n5 0 1\n", None));
         assert_eq!(Document01.list(&[7, 0, 5, 0, 0x80, 0x00], Form::Readable), listing("iall cycles=0\n", Some(4)));
-        assert_eq!(Document01.list(&[7, 0, 10, 0], Form::Numbers), listing("7 0\n", Some(2)), "an unknown code");
+        assert_eq!(Document01.list(&[7, 0, 11, 0], Form::Numbers), listing("7 0\n", Some(2)), "an unknown code");
         assert_eq!(Document01.list(&[8, 0, 1, 9, 0], Form::Numbers), listing("8 0 1\n", Some(5)), "a resume cut off");
         assert_eq!(Document01.list(&[7, 0, 5], Form::Numbers), listing("7 0\n", Some(3)), "missing");
     }

@@ -1,13 +1,13 @@
-//! Document 01, "Operations", and document 02, Five: the codes, their fields and the registers.
+//! Document 01, "Operations", and document 02, Five and Six: the codes, their fields and the registers.
 
-use crate::{Cause, Event, Level, Platform, Side};
+use crate::{Cause, Clock, Event, Group, Level, Platform, Side};
 
 /// Refusal 2 begins above this code.
-pub const LAST_CODE: u64 = 9;
+pub const LAST_CODE: u64 = 10;
 
 /// How many fields an operation has, its code and cycles not counted.
 pub fn own_fields(code: u64) -> Option<usize> {
-    [2, 4, 4, 4, 1, 1, 2, 0, 1, 2].get(usize::try_from(code).ok()?).copied()
+    [2, 4, 4, 4, 1, 1, 2, 0, 1, 2, 4].get(usize::try_from(code).ok()?).copied()
 }
 
 /// An operation whose fields are all inside their lists. Its cycles stand beside it.
@@ -23,6 +23,7 @@ pub enum Operation {
     InvalidateAll,
     Halt { source: u64 },
     Resume { target: u64, to: Level },
+    Freeze { group: Group, clock: Clock },
 }
 
 impl Operation {
@@ -117,6 +118,7 @@ pub enum Register {
     Cr1,
     Cr2,
     Fcr,
+    Ts,
     Record { part: Part, m: usize },
 }
 
@@ -137,6 +139,7 @@ impl Register {
             1 => Some(Register::Cr1),
             2 => Some(Register::Cr2),
             3 => Some(Register::Fcr),
+            4 => Some(Register::Ts),
             32..=63 => Some(Register::Record { part: Part::Inf, m }),
             64..=95 => Some(Register::Record { part: Part::Source, m }),
             96..=127 => Some(Register::Record { part: Part::Target, m }),

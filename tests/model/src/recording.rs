@@ -58,7 +58,7 @@ pub trait Recordings: Rules {
         Ok((numbers, next))
     }
 
-    /// How many fields stand behind a code that is read; none where the code is above 9.
+    /// How many fields stand behind a code that is read; none where the code is above the last one.
     fn fields_read(&self, code: u64) -> Option<usize> {
         own_fields(code)
     }
@@ -78,13 +78,13 @@ pub trait Recordings: Rules {
         Ok(next)
     }
 
-    /// The bytes of an operation, its own fields only; none where the code is above 9.
+    /// The bytes of an operation, its own fields only; none where the code is above the last one.
     fn operation_bytes(&self, numbers: [u64; 6]) -> Option<Vec<u8>> {
         let fields = self.fields_written(numbers[0])?;
         Some(numbers[..2 + fields].iter().flat_map(|&number| self.number_bytes(number)).collect())
     }
 
-    /// How many fields of a code are written; none where the code is above 9.
+    /// How many fields of a code are written; none where the code is above the last one.
     fn fields_written(&self, code: u64) -> Option<usize> {
         own_fields(code)
     }
@@ -175,7 +175,8 @@ mod tests {
         assert_eq!(Document01.read_operation(&bytes, 0), Ok((branch, bytes.len())));
         let read = Document01.operation_bytes([5, 0, 32, 7, 7, 7]).unwrap();
         assert_eq!(Document01.read_operation(&read, 0), Ok(([5, 0, 32, 0, 0, 0], 3)), "0 beyond its own fields");
-        for (numbers, own) in [([8, 100, 4, 0, 0, 0], 3), ([9, 300, 8, 1, 0, 0], 5)] {
+        let cases = [([8, 100, 4, 0, 0, 0], 3), ([9, 300, 8, 1, 0, 0], 5), ([10, 40, 0, 1000, 1500, 3], 8)];
+        for (numbers, own) in cases {
             let bytes = Document01.operation_bytes(numbers).unwrap();
             assert_eq!((bytes.len(), Document01.read_operation(&bytes, 0)), (own, Ok((numbers, own))));
         }
@@ -184,9 +185,11 @@ mod tests {
     #[test]
     fn reading_checks_code_then_fields() {
         let stop = |refusal, at| Err(Stop { refusal, at });
-        assert_eq!(Document01.read_operation(&[10], 0), stop(Refusal::UnknownCode, 0), "cycles missing");
-        assert_eq!(Document01.read_operation(&[10, 0x80, 0x00], 0), stop(Refusal::UnknownCode, 0));
+        assert_eq!(Document01.read_operation(&[11], 0), stop(Refusal::UnknownCode, 0), "cycles missing");
+        assert_eq!(Document01.read_operation(&[11, 0x80, 0x00], 0), stop(Refusal::UnknownCode, 0));
         assert_eq!(Document01.read_operation(&[9, 0, 8], 0), stop(Refusal::Malformed, 3), "a resume without its level");
+        let freeze = [10, 0, 1, 5, 6];
+        assert_eq!(Document01.read_operation(&freeze, 0), stop(Refusal::Malformed, 5), "without its guest offset");
         assert_eq!(Document01.read_operation(&[0x80, 0x00], 0), stop(Refusal::Malformed, 0));
         assert_eq!(Document01.read_operation(&[5, 0, 0x80, 0x00], 0), stop(Refusal::Malformed, 2));
         assert_eq!(Document01.read_operation(&[5, 0], 0), stop(Refusal::Malformed, 2), "missing");
@@ -197,7 +200,7 @@ mod tests {
     #[test]
     fn writing_checks_2_then_6() {
         let mut room = [0xEE; 4];
-        assert_eq!(Document01.write_operation(&mut room, 9, [10, 0, 0, 0, 0, 0]), Err(Refusal::UnknownCode));
+        assert_eq!(Document01.write_operation(&mut room, 9, [11, 0, 0, 0, 0, 0]), Err(Refusal::UnknownCode));
         assert_eq!(Document01.write_operation(&mut room, 1, [5, 300, 32, 0, 0, 0]), Err(Refusal::RoomTooShort));
         assert_eq!(room, [0xEE; 4]);
         assert_eq!(Document01.write_operation(&mut room, 0, [5, 300, 32, 0, 0, 0]), Ok(4));
@@ -207,8 +210,8 @@ mod tests {
     #[test]
     fn reading_into_a_place_checks_6_first() {
         let mut place = [9; 8];
-        assert_eq!(Document01.read_into(&[10], 0, &mut place[..5]), Err(Refusal::RoomTooShort));
-        assert_eq!(Document01.read_into(&[10], 0, &mut place), Err(Refusal::UnknownCode));
+        assert_eq!(Document01.read_into(&[11], 0, &mut place[..5]), Err(Refusal::RoomTooShort));
+        assert_eq!(Document01.read_into(&[11], 0, &mut place), Err(Refusal::UnknownCode));
         assert_eq!(place, [9; 8]);
         assert_eq!(Document01.read_into(&[5, 1, 32], 0, &mut place), Ok(3));
         assert_eq!(place, [5, 1, 32, 0, 0, 0, 9, 9]);
@@ -218,9 +221,9 @@ mod tests {
     fn a_recorded_step_checks_7_first() {
         let (mut state, mut room) = ([9; State::NUMBERS], []);
         let refused = |refusal, next| RecordedStep { answer: Answer::Refused(refusal), next };
-        assert_eq!(Document01.step_recorded(&mut state, &mut room, &[10], 0), refused(Refusal::NotSound, 0));
+        assert_eq!(Document01.step_recorded(&mut state, &mut room, &[11], 0), refused(Refusal::NotSound, 0));
         let mut state = [0; State::NUMBERS];
-        assert_eq!(Document01.step_recorded(&mut state, &mut room, &[10], 0), refused(Refusal::UnknownCode, 0));
+        assert_eq!(Document01.step_recorded(&mut state, &mut room, &[11], 0), refused(Refusal::UnknownCode, 0));
         assert_eq!(Document01.step_recorded(&mut state, &mut room, &[7], 0), refused(Refusal::Malformed, 1));
         assert_eq!(Document01.step_recorded(&mut state, &mut room, &[7, 0], 0), refused(Refusal::NotReset, 2));
         assert_eq!(Document01.step_recorded(&mut state, &mut room, &[7, 0], 2), refused(Refusal::Malformed, 2));

@@ -57,10 +57,19 @@ mod tests {
         assert_eq!(lines(&bytes("7 0 / 0 0 9 0 / 0 0 8 0 / 5 0 0")), ["refused 3", "refused 4", "0000000000005008"]);
         assert_eq!(lines(&bytes("0 0 8 0 / 2 0 34 0 0 0 / 5 0 1")), ["refused 5", "0000000000000000"]);
         assert_eq!(lines(&bytes("0 0 8 0 / 9 0 4 3 / 5 0 1")), ["refused 8", "0000000000000000"]);
-        assert_eq!(lines(&bytes("10 / 0 0 8 0 / 5 0 0")), ["refused 2"]);
+        assert_eq!(lines(&bytes("0 0 8 0 / 10 0 2 0 0 0 / 5 0 4")), ["refused 4", "0000000000000000"]);
+        assert_eq!(lines(&bytes("11 / 0 0 8 0 / 5 0 0")), ["refused 2"]);
         assert_eq!(lines(&[5, 0, 0x80, 0x00, 5, 0, 0]), ["refused 1"]);
         assert_eq!(lines(&[5]), ["refused 1"]);
         assert_eq!(lines(&[]), [""; 0]);
+    }
+
+    /// The manual's example of a freeze: FZP and TS 1 in BRBCR_EL1, and an offset above the count.
+    #[test]
+    fn prints_the_time_of_a_freeze() {
+        let at_el1 = "0 0 8 0 / 4 0 49 / 6 0 1 290 / 3 0 1 0 0 0 / 10 40 0 1000 1500 0";
+        let lines = lines(&bytes(&format!("{at_el1} / 5 0 4 / 6 0 4 1 / 5 0 3")));
+        assert_eq!(lines, ["fffffffffffffe0c", "undefined", "0000000000000080"]);
     }
 
     #[test]

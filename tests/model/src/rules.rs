@@ -2,8 +2,9 @@
 //! adds to.
 
 use crate::{
-    bit, buffer_size, count, exception_type, flag, room, Access, Answer, BranchType, Cause, Event, Level, Operation,
-    Outcome, Platform, Record, Refusal, Register, Shape, Side, State, CONTROL_MASK, FILTER_MASK, LAST_CODE,
+    bit, buffer_size, count, exception_type, flag, room, ts, Access, Answer, BranchType, Cause, Clock, Event, Group,
+    Level, Operation, Outcome, Platform, Record, Refusal, Register, Shape, Side, State, CONTROL_MASK, FILTER_MASK,
+    LAST_CODE, PAUSED,
 };
 
 /// Document 01 as it stands, with the requests of document 02 that have landed.
@@ -61,19 +62,17 @@ pub trait Rules {
                 self.write(state, self.meant(state, register), value);
                 Answer::Done
             }),
-            Operation::InvalidateAll => {
-                let outcome = self.outcome(state, Access::InvalidateAll);
-                state.unknown |= self.iall_is_occasion(outcome);
-                outcome.or_else(|| {
-                    self.invalidate_all(state, room);
-                    Answer::Done
-                })
+            Operation::InvalidateAll => self.iall(state, room),
+            Operation::Freeze { group, clock } => {
+                self.freeze(state, group, &clock);
+                Answer::Done
             }
         }
     }
 
     /// "Level 3; P, all registers and the running count 0, the reset's own cycles dropped; every record zero; size and
-    /// v1p1 from its fields." No record was made since: the next count is unknown. "A reset ends a halt" (document 02, Five).
+    /// v1p1 from its fields." No record was made since: the next count is unknown. "A reset ends a halt" (document 02, Five), and
+    /// BRBTS_EL1 is one of all the registers (Six).
     fn reset(&self, state: &mut State, room: &mut [u64], size: usize, v1p1: bool) {
         *state = State {
             level: Level::EL3,
@@ -86,6 +85,7 @@ pub trait Rules {
             count: 0,
             unknown: true,
             halted: false,
+            time: 0,
         };
         room::clear(room, size);
     }
@@ -122,7 +122,9 @@ pub trait Rules {
 
     /// 7: the state in these numbers, none where it is not sound.
     fn sound(&self, numbers: &[u64]) -> Option<State> {
-        let &[level, size, v1p1, platform, cr1, cr2, fcr, count, unknown, halted, ..] = numbers else { return None };
+        let &[level, size, v1p1, platform, cr1, cr2, fcr, count, unknown, halted, time, ..] = numbers else {
+            return None;
+        };
         let state = State {
             level: Level::from_number(level)?,
             size: if size == 0 { 0 } else { buffer_size(size)? },
@@ -134,6 +136,7 @@ pub trait Rules {
             count: (count <= count::LIMIT).then_some(count)?,
             unknown: flag(unknown)?,
             halted: flag(halted)?,
+            time,
         };
         self.can_be_entered(state.platform, state.level).then_some(state)
     }
@@ -169,6 +172,10 @@ pub trait Rules {
             7 => Operation::InvalidateAll,
             8 => Operation::Halt { source: a },
             9 => Operation::Resume { target: a, to: Level::from_number(b)? },
+            10 => {
+                let clock = Clock { physical: b, virtual_offset: c, guest_offset: d };
+                Operation::Freeze { group: Group::from_number(a)?, clock }
+            }
             _ => return None,
         };
         Some(operation)
@@ -412,6 +419,67 @@ pub trait Rules {
     }
 
     // ---------------------------------------------------------------------------------------------------------------
+    // Freezes (document 02, Six)
+
+    /// An accepted freeze, which makes no record and is no occasion by itself. Where it does not happen the old time stays
+    /// (`docs/DECISIONS.md`, point 58).
+    fn freeze(&self, state: &mut State, group: Group, clock: &Clock) {
+        if self.freezes(state, group) {
+            let time = self.time(state, clock);
+            self.frozen(state, time);
+        }
+    }
+
+    /// Whether it happens: its group asks for it, the side that it begins at is not prohibited, as Debug state always is
+    /// (`docs/DECISIONS.md`, point 57), and nothing has paused recording before it.
+    fn freezes(&self, state: &State, group: Group) -> bool {
+        self.freeze_asked(state, group) && !self.prohibited_side(state, self.begins(state)) && !state.paused()
+    }
+
+    /// Bit 8, FZP, of the group's register asks for it.
+    fn freeze_asked(&self, state: &State, group: Group) -> bool {
+        bit(self.group_control(state, group), 8)
+    }
+
+    /// The register that governs a group.
+    fn group_control(&self, state: &State, group: Group) -> u64 {
+        match group {
+            Group::Zero => state.cr1,
+            Group::One => state.cr2,
+        }
+    }
+
+    /// The time that a freeze keeps, by the TS that decides; 0 where both are 0.
+    fn time(&self, state: &State, clock: &Clock) -> u64 {
+        match self.deciding_ts(state) {
+            1 => self.difference(clock.physical, clock.virtual_offset),
+            2 => self.difference(clock.physical, clock.guest_offset),
+            3 => clock.physical,
+            _ => 0,
+        }
+    }
+
+    /// BRBCR_EL2's TS goes first, whatever the group and the level are; BRBCR_EL1's is asked where it is 0.
+    fn deciding_ts(&self, state: &State) -> u64 {
+        match ts(state.cr2) {
+            0 => ts(state.cr1),
+            chosen => chosen,
+        }
+    }
+
+    /// A count less an offset; where the offset is above the count, 2^64 is added ("Freezes" in `docs/MANUAL.md`).
+    fn difference(&self, count: u64, offset: u64) -> u64 {
+        let added = if offset > count { 1u128 << 64 } else { 0 };
+        (u128::from(count) + added - u128::from(offset)) as u64
+    }
+
+    /// What a freeze sets: PAUSED, and BRBTS_EL1 to the time.
+    fn frozen(&self, state: &mut State, time: u64) {
+        state.fcr |= PAUSED;
+        state.time = time;
+    }
+
+    // ---------------------------------------------------------------------------------------------------------------
     // Access outcomes
 
     fn outcome(&self, state: &State, access: Access) -> Outcome {
@@ -426,9 +494,9 @@ pub trait Rules {
         }
     }
 
-    /// "Writing 0 or a record register: UNDEFINED."
+    /// "Writing 0 or a record register: UNDEFINED." BRBTS_EL1 is read only too (document 02, Six).
     fn never_written(&self, access: Access) -> bool {
-        matches!(access, Access::Write(Register::Idr0 | Register::Record { .. }))
+        matches!(access, Access::Write(Register::Idr0 | Register::Ts | Register::Record { .. }))
     }
 
     /// "Register 2 at EL1: UNDEFINED."
@@ -442,14 +510,14 @@ pub trait Rules {
         state.level == Level::EL1 && platform.el2_enabled() && platform.fgten() && !self.n_bit(platform, access)
     }
 
-    /// The n-bit that matches an access.
+    /// The n-bit that matches an access. That of the records, nBRBDATA, is BRBTS_EL1's too (document 02, Six).
     fn n_bit(&self, platform: Platform, access: Access) -> bool {
-        match access {
-            Access::InvalidateAll => platform.n_brbiall(),
-            Access::Read(Register::Idr0) | Access::Write(Register::Idr0) => platform.n_brbidr(),
-            Access::Read(Register::Record { .. }) | Access::Write(Register::Record { .. }) => platform.n_brbdata_read(),
-            Access::Read(_) => platform.n_brbctl_read(),
-            Access::Write(_) => platform.n_brbctl_write(),
+        match (access.register(), access) {
+            (None, _) => platform.n_brbiall(),
+            (Some(Register::Idr0), _) => platform.n_brbidr(),
+            (Some(Register::Ts | Register::Record { .. }), _) => platform.n_brbdata_read(),
+            (Some(_), Access::Write(_)) => platform.n_brbctl_write(),
+            (Some(_), _) => platform.n_brbctl_read(),
         }
     }
 
@@ -477,6 +545,7 @@ pub trait Rules {
             Register::Cr1 => state.cr1,
             Register::Cr2 => state.cr2,
             Register::Fcr => state.fcr,
+            Register::Ts => state.time,
             Register::Record { part, m } => {
                 let shown = self.shown_record(state, m);
                 shown.and_then(|record| room.get(3 * record + part as usize)).copied().unwrap_or(0)
@@ -490,14 +559,14 @@ pub trait Rules {
         (record < state.size).then_some(record)
     }
 
-    /// A performed write. The two kinds of register that are never written do not come here.
+    /// A performed write. The registers that are never written do not come here.
     fn write(&self, state: &mut State, register: Register, value: u64) {
         let before = *state;
         match register {
             Register::Cr1 => state.cr1 = self.kept(register, value),
             Register::Cr2 => state.cr2 = self.kept(register, value),
             Register::Fcr => state.fcr = self.kept(register, value),
-            Register::Idr0 | Register::Record { .. } => {}
+            Register::Idr0 | Register::Ts | Register::Record { .. } => {}
         }
         state.unknown |= self.write_is_occasion(&before, state);
     }
@@ -505,6 +574,16 @@ pub trait Rules {
     /// "Writes keep only these bits".
     fn kept(&self, register: Register, value: u64) -> u64 {
         value & if register == Register::Fcr { FILTER_MASK } else { CONTROL_MASK }
+    }
+
+    /// A BRB IALL, which is an occasion where it is performed.
+    fn iall(&self, state: &mut State, room: &mut [u64]) -> Answer {
+        let outcome = self.outcome(state, Access::InvalidateAll);
+        state.unknown |= self.iall_is_occasion(outcome);
+        outcome.or_else(|| {
+            self.invalidate_all(state, room);
+            Answer::Done
+        })
     }
 
     /// "BRB IALL sets every record to zero and lets the count run on." That it is an occasion is a rule of its own.

@@ -6,6 +6,8 @@ use crate::{bit, count, Level, Platform};
 pub const CONTROL_MASK: u64 = 0xC0017B;
 /// The bits that a write of register 3 keeps.
 pub const FILTER_MASK: u64 = 0x307F0080;
+/// PAUSED, bit 7 of register 3.
+pub const PAUSED: u64 = 0x80;
 
 /// A sound state. A size of 0 says that there was no reset yet.
 #[derive(Clone, Copy, Debug, PartialEq, Eq)]
@@ -26,11 +28,13 @@ pub struct State {
     pub unknown: bool,
     /// Whether the processor is halted (document 02, Five). The level is then that of the halt.
     pub halted: bool,
+    /// BRBTS_EL1, the time of the last freeze (document 02, Six): any number.
+    pub time: u64,
 }
 
 impl State {
     /// How many numbers hold a state.
-    pub const NUMBERS: usize = 10;
+    pub const NUMBERS: usize = 11;
 
     /// The state's numbers, in the order of `docs/DECISIONS.md`, point 21.
     #[inline]
@@ -46,6 +50,7 @@ impl State {
             self.count,
             u64::from(self.unknown),
             u64::from(self.halted),
+            self.time,
         ]);
     }
 
@@ -67,10 +72,9 @@ impl State {
         bit(self.cr1, 4) && bit(self.cr2, 4)
     }
 
-    /// Bit 7 of BRBFCR_EL1.
     #[inline]
     pub fn paused(&self) -> bool {
-        bit(self.fcr, 7)
+        self.fcr & PAUSED != 0
     }
 
     /// Bits 29:28 of BRBFCR_EL1.

@@ -13,11 +13,12 @@ use model::{own_fields, Batches, Document01, Rules, State};
 const SIZES: [u64; 4] = [8, 16, 32, 64];
 const ROOMS: [usize; 6] = [24, 47, 48, 95, 96, 191];
 /// What runs are mostly about: mistakes and accesses more often, since they have more outcomes.
-const FLAVOURS: [Flavour; 9] = [
+const FLAVOURS: [Flavour; 10] = [
     Flavour::Recording,
     Flavour::Roaming,
     Flavour::Boundary,
     Flavour::Halting,
+    Flavour::Freezing,
     Flavour::Accessing,
     Flavour::Accessing,
     Flavour::Careless,

@@ -30,8 +30,8 @@ fn last_listed(code: u64, place: usize) -> Option<u64> {
         (0, 2) | (1 | 2, 2) => Some(66),
         // Registers.
         (5 | 6, 2) => Some(130),
-        // Flags and levels.
-        (0..=3 | 9, 3) | (3, 2) => Some(9),
+        // Flags, levels and groups.
+        (0..=3 | 9, 3) | (3 | 10, 2) => Some(9),
         _ => None,
     }
 }

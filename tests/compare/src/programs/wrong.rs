@@ -88,6 +88,8 @@ fn numbers(random: &mut Random, kind: Kind, case: usize) -> Vec<u64> {
     let own = 2 + own_fields(code).expect("a known code");
     let count = match kind {
         Kind::UnknownCode => return unknown_code(random, case),
+        // Each code has one missing once, which is the nearest to an operation.
+        Kind::TooFew if case < CODES as usize => own - 1,
         Kind::TooFew => 1 + random.below(own as u64 - 1) as usize,
         Kind::TooMany => own + 1 + case / CODES as usize,
         _ => own,
@@ -102,7 +104,7 @@ fn no_number(case: usize) -> Vec<u8> {
     words[case].to_vec()
 }
 
-/// A code above 9, often one whose lowest bits are a code, with as many numbers as that code has or others.
+/// A code above the last one, often one whose lowest bits are a code, with as many numbers as that code has or others.
 fn unknown_code(random: &mut Random, case: usize) -> Vec<u64> {
     let low = random.below(CODES);
     let code = match case {

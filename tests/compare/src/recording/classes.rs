@@ -11,7 +11,7 @@ const CYCLES: [&str; 3] = ["with cycles", "with no cycles", "with malformed cycl
 /// Which answers a group has.
 const WRITTEN: [u64; 3] = [0, 2, 6];
 const READ: [u64; 4] = [0, 1, 2, 6];
-const CODES: [u64; 10] = [0, 1, 2, 3, 4, 5, 6, 7, 8, 9];
+const CODES: [u64; 11] = [0, 1, 2, 3, 4, 5, 6, 7, 8, 9, 10];
 const STEPPED: [u64; 12] = [0, 100, 102, 103, 1, 2, 3, 4, 8, 5, 6, 7];
 
 /// How often each class was met.

@@ -22,7 +22,7 @@ pub enum Fault {
 pub enum Reading {
     /// It is read.
     Operation,
-    /// Its code is above 9; what is wrong with the cycles after it is not looked at.
+    /// Its code is above the last one; what is wrong with the cycles after it is not looked at.
     UnknownCode { cycles: Option<Fault> },
     /// The first number that is wrong: 0 the code, 1 the cycles, 2 to 5 the fields.
     Faulty { number: usize, fault: Fault },
@@ -94,7 +94,8 @@ mod tests {
         assert_eq!(Reading::of(&[5, 0xAC, 0x02], 0), Reading::Faulty { number: 2, fault: Fault::Missing });
         assert_eq!(Reading::of(&[7, 0], 9), Reading::Faulty { number: 0, fault: Fault::Missing });
         assert_eq!(Reading::of(&[9, 0, 8], 0), Reading::Faulty { number: 3, fault: Fault::Missing });
-        assert_eq!(Reading::of(&[10], 0), Reading::UnknownCode { cycles: Some(Fault::Missing) });
+        assert_eq!(Reading::of(&[10, 0, 1, 5, 6], 0), Reading::Faulty { number: 5, fault: Fault::Missing });
+        assert_eq!(Reading::of(&[11], 0), Reading::UnknownCode { cycles: Some(Fault::Missing) });
         assert_eq!(Reading::of(&[0x85, 1, 0], 0), Reading::UnknownCode { cycles: None });
     }
 }

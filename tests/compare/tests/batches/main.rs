@@ -12,7 +12,7 @@ const ROUNDS: usize = 10_400;
 /// Fewer cases of a class than this prove nothing.
 const LEAST: u64 = 1_000;
 /// Groups of outcomes of single calls, which other tests meet.
-const NOT_HERE: [&str; 9] = [
+const NOT_HERE: [&str; 14] = [
     "answers",
     "events",
     "records",
@@ -22,6 +22,11 @@ const NOT_HERE: [&str; 9] = [
     "what 8 refuses",
     "while halted",
     "counts and halts",
+    "freezes",
+    "differences of freezes",
+    "freezes that do not happen",
+    "accesses to BRBTS_EL1",
+    "while frozen",
 ];
 
 const ENGINES: [&dyn Batching; 2] = [&Library, &Modelled(Document01)];
