@@ -1,4 +1,4 @@
--- A closed run: records of a stretch that are counted, one of them rounded, BRB IALL before them, a refused operation in their midst; and one with a halt and a resume.
+-- A closed run: records of a stretch that are counted, one of them rounded, BRB IALL before them, a refused operation in their midst; one with a halt and a resume; and one with a freeze.
 use Prim.Native.Nat.{ℕ, _+_}
 use mathlib.Core.Path.{_≡_, refl}
 use mathlib.Core.Bool.{Bool, true, false}
@@ -14,14 +14,16 @@ use Rattle.state.specs.Sound.{unavailable, sound}
 use Rattle.room.specs.Room.{records, numbered, pushed, cleared, roomAfter}
 use Rattle.region.specs.Region.{enabled, prohibited}
 use Rattle.event.specs.Event.{controlled, valid, countUnknown, MPRED, BRBINF, recordOf, becomesRecord}
+use Rattle.freeze.specs.Freeze.{freezes, time, overflowed}
 use Rattle.access.specs.Access.{nBit, trapped2, outcome, readOutcome, writeOutcome, iallOutcome, registerWritten}
 use Rattle.operation.specs.Refusal.{unknownCode, notReset, outsideList, wrongHalted, wrongLevel, roomTooShort, refusalOf}
 use Rattle.operation.specs.Clause.{changed}
 use Rattle.change.specs.Change.{occasion, passed, effectOf, answerOf}
 use Rattle.recorder.specs.Step.{accepted, stepOf}
 use Rattle.history.specs.History.{Timed, Machine, stepped, run, shown, CCU, CC, notedStep, notedRun, history, notesOf, stretch, endSum, S, U, T, acceptedCycles, justMade}
-use Rattle.history.specs.Events.{restarts, howMany, Between}
+use Rattle.history.specs.Events.{makesRecord, restarts, howMany, Between}
 use Rattle.history.proofs.Clock.{exact-time}
+use Rattle.history.proofs.Frozen.{clears, FreezesIn}
 
 abbrev operation : ℕ → ℕ → ℕ → ℕ → ℕ → ℕ → Timed
 operation code cycles a b c d = record { operation = operationOf code a b c d; cycles = cycles }
@@ -146,3 +148,35 @@ pub closed-halts : (map {B = ℕ × ℕ × ℕ × ℕ × ℕ × ℕ} (λ (r : Re
     × (stretch (shown (run start halts)) 0 2 ≡ false)
 unfolding bitLength exponent mantissa encoded smallestOf largestOf decoded unavailable sound records numbered pushed cleared roomAfter enabled prohibited filterBit passesFilter controlled valid countUnknown MPRED BRBINF recordOf becomesRecord nBit trapped2 outcome readOutcome writeOutcome iallOutcome registerWritten operationOf unknownCode notReset outsideList wrongHalted wrongLevel roomTooShort refusalOf changed occasion passed effectOf answerOf accepted stepOf stepped run notedStep notedRun stretch endSum acceptedCycles howMany
 closed-halts = (refl, refl, refl, refl)
+
+-- After `before` BRBCR_EL1 gets FZP and TS 1, and a counter of group 0 overflows, at 1000 with the virtual offset 1500. Then a branch and a second overflow; then
+-- PAUSED is cleared, and two branches.
+abbrev ready : List Timed
+ready = before ++ (operation 6 1 1 0x12A 0 0 ∷ [])
+
+abbrev freeze : Timed
+freeze = operation 10 40 0 1000 1500 0
+
+abbrev paused : List Timed
+paused = operation 1 5 0 0 4100 4112 ∷ operation 10 3 0 7000 0 0 ∷ []
+
+abbrev resumed : List Timed
+resumed = operation 6 2 3 65536 0 0 ∷ operation 1 50 0 0 4100 4112 ∷ operation 1 60 0 0 4100 4112 ∷ []
+
+-- What `frozen-until` assumes holds: the overflow freezes, and none of the two operations clears PAUSED. They make no record and leave the time, which
+-- is 1000 less 1500; the two branches make one each, with an unknown count and a known one.
+pub closed-freeze : FreezesIn (run start ready) freeze
+    × (howMany clears (run start (ready ++ (freeze ∷ []))) paused ≡ 0)
+    × (howMany makesRecord (run start (ready ++ (freeze ∷ []))) paused ≡ 0)
+    × (run start (ready ++ (freeze ∷ paused)) .state .brbts ≡ 0xFFFFFFFFFFFFFE0C)
+    × (howMany makesRecord (run start (ready ++ (freeze ∷ paused))) resumed ≡ 2)
+    × (map {B = ℕ × ℕ} (λ (r : Record). (CCU r, CC r)) (take 3 (shown (run start (ready ++ (freeze ∷ (paused ++ resumed)))))) ≡ (0, 60) ∷ (1, 0) ∷ (1, 0) ∷ [])
+unfolding bitLength exponent mantissa encoded smallestOf largestOf decoded unavailable sound records numbered pushed cleared roomAfter enabled prohibited filterBit passesFilter controlled valid countUnknown MPRED BRBINF recordOf becomesRecord nBit trapped2 outcome readOutcome writeOutcome iallOutcome registerWritten operationOf unknownCode notReset outsideList wrongHalted wrongLevel roomTooShort refusalOf changed occasion passed effectOf answerOf accepted stepOf stepped run notedStep notedRun stretch endSum acceptedCycles howMany freezes time overflowed
+closed-freeze = (
+  record { group = 0; physical = 1000; virtualOffset = 1500; guestOffset = 0; is-freeze = refl; is-accepted = refl; it-freezes = refl },
+  refl,
+  refl,
+  refl,
+  refl,
+  refl,
+)

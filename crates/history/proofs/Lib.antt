@@ -5,7 +5,7 @@ pub mod Counts
 pub mod Clock
 pub mod Exact
 pub mod Unknown
+pub mod Frozen
 pub mod ClosedRun
 pub mod Sound
 pub mod Summed
-pub mod Frozen
