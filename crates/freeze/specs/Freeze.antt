@@ -11,8 +11,8 @@ use Rattle.region.specs.Region.{prohibited}
 abbrev pub FZP : State → ℕ → Bool
 FZP s group = cond (eqb group 0) (isSet 8 (s .brbcr1)) (isSet 8 (s .brbcr2))
 
--- An overflow freezes: its group's control is 1, recording is not prohibited where the processor is, which it always is in Debug
--- state, and recording is not paused (house).
+-- An overflow freezes (house): its group's control is 1; recording is not prohibited at the side where the processor is, and Debug
+-- state is a side where it always is; and recording is not paused.
 unfoldable pub freezes : State → ℕ → Bool
 freezes s group = FZP s group && not (prohibited s (side s)) && not (PAUSED s)
 
