@@ -1,7 +1,11 @@
-/* A proved model of one processor's Arm branch record buffer (BRBE), version 3.0.0. docs/MANUAL.md says all of it: what
+/* A proved model of one processor's Arm branch record buffer (BRBE), version 4.0.0. docs/MANUAL.md says all of it: what
  * each operation does, each register, each refusal.
  *
- * What changed for a host in 3.0.0: a state has eleven numbers, the last of which is BRBTS_EL1, so that a host that lends ten
+ * What changed for a host in 4.0.0: records no longer move in the room. A state has twelve numbers, the last of which says at
+ * which place record 0 stands, so that a host that lends eleven of its own is answered 7; one that goes by BRB_STATE_NUMBERS and
+ * begins with zeros needs to be compiled again. brb_bank_inf, brb_bank_source and brb_bank_target take that number after the
+ * size. A host that looked into the room itself, for record r at 3r, has to go by it too. What reads and the bank view answer is
+ * what it was. In 3.0.0: a state has eleven numbers, the last of which is BRBTS_EL1, so that a host that lends ten
  * of its own is answered 7; one that goes by BRB_STATE_NUMBERS and begins with zeros needs to be compiled again and no more. Code
  * 10, which was refused with 2, is a freeze; register 4, which was refused with 4, is BRBTS_EL1; bits 8 and 6:5 of BRBCR_EL1 and
  * BRBCR_EL2 have their effect. In 2.0.0: a state has ten numbers, the last of which says whether the processor is halted, so that a
@@ -21,10 +25,13 @@
  * every function: the area is then never touched. Two lent areas of one call must not overlap.
  *
  * The state is BRB_STATE_NUMBERS numbers, in this order: level, size, v1p1, P, BRBCR_EL1, BRBCR_EL2, BRBFCR_EL1, the
- * running count, whether the next count is unknown, whether the processor is halted, and BRBTS_EL1. All zeros is a fresh
- * state, in which only a reset is accepted. More numbers may be lent; those past the needed ones are never written.
+ * running count, whether the next count is unknown, whether the processor is halted, BRBTS_EL1, and the starting number. All
+ * zeros is a fresh state, in which only a reset is accepted. More numbers may be lent; those past the needed ones are never written.
  *
- * The room holds the records, newest first: record r is BRBINF, BRBSRC, BRBTGT at 3r, 3r+1, 3r+2. It must hold
+ * The room holds the records, each at its place: place p is BRBINF, BRBSRC, BRBTGT at 3p, 3p+1, 3p+2. Record 0, the newest,
+ * stands at the place that the state's starting number says, and record r at start + r, or at start + r - size where that is not
+ * below the size. A new record is written at the place below the start, going round, which becomes the start; no other number of
+ * the room is written then. A reset and a performed BRB IALL make the records zero and the start 0. The room must hold
  * BRB_ROOM_NUMBERS(size) numbers, for the size after the operation; those past them are never written.
  *
  * Answers. `number` is
@@ -40,7 +47,7 @@
  *          halted, and the operation is a resume
  *     5    refused: the level does not permit the operation
  *     6    refused: the room is too short (or what else a function writes to, as it says)
- *     7    refused: the state is not sound, or its memory is too short to hold it
+ *     7    refused: the state is not sound, or its memory is too short to hold it (in the bank view: the start alone)
  *     9    refused: a sum passes 2^64 - 1 (brb_count_sum alone)
  * Refusals are checked in the order 7, 2, 3, 4, 8, 5, 6, 9, and have the value 0. A refused operation's cycles do not count.
  *
@@ -62,10 +69,10 @@ extern "C" {
 
 /* This header's version. It grows in MAJOR where a host has to change, in MINOR where something is added or an answer becomes
  * another. */
-#define BRB_VERSION_MAJOR 3
+#define BRB_VERSION_MAJOR 4
 #define BRB_VERSION_MINOR 0
 #define BRB_VERSION_PATCH 0
-#define BRB_VERSION "3.0.0"
+#define BRB_VERSION "4.0.0"
 
 /* A constant of 64 bits. C89 has no literal for it, and C++ warns of C's casts. */
 #ifdef __cplusplus
@@ -125,7 +132,7 @@ extern "C" {
 #define BRB_BRBIDR0_EL1(size) (0x5000 + (size))
 
 /* How many numbers a state has. */
-#define BRB_STATE_NUMBERS 11
+#define BRB_STATE_NUMBERS 12
 
 /* Where each number of a state stands. */
 #define BRB_STATE_LEVEL 0
@@ -139,6 +146,7 @@ extern "C" {
 #define BRB_STATE_UNKNOWN 8
 #define BRB_STATE_HALTED 9
 #define BRB_STATE_BRBTS_EL1 10
+#define BRB_STATE_START 11
 
 /* How many numbers the records of a buffer of this size take; the largest size, and the room for it. */
 #define BRB_ROOM_NUMBERS(size) (3 * (size))
@@ -319,14 +327,18 @@ struct brb_spread brb_count_decode(uint64_t cc);
 struct brb_spread brb_count_sum(const uint64_t *cc, size_t count);
 
 /* One register of the records, as a bank of a buffer of this size shows it: BRBINF<m>, BRBSRC<m> or BRBTGT<m> with BANK in
- * BRBFCR_EL1. Number 0 with the register of record m + 32 * bank, or with 0 where that is not below the size; number 4 with
- * 0 where the size is none of 8, 16, 32 and 64, `bank` is above 3 or `m` above 31; else number 6 with 0 where the room is
+ * BRBFCR_EL1. `start` is the place of record 0, the state's number BRB_STATE_START. Number 0 with the register of record
+ * m + 32 * bank, or with 0 where that is not below the size; number 4 with 0 where the size is none of 8, 16, 32 and 64, `bank`
+ * is above 3 or `m` above 31; else number 7 with 0 where `start` is not below the size; else number 6 with 0 where the room is
  * too short for the size. Nothing is written, no state is needed and no cycles pass: a host looks at records without an
- * operation. For a state's own size and BANK the value is what a performed read of the register reads. No room at all (a
- * length of 0, NULL too) is 6, after 4. */
-struct brb_answer brb_bank_inf(const uint64_t *room, size_t room_numbers, uint64_t size, uint64_t bank, uint64_t m);
-struct brb_answer brb_bank_source(const uint64_t *room, size_t room_numbers, uint64_t size, uint64_t bank, uint64_t m);
-struct brb_answer brb_bank_target(const uint64_t *room, size_t room_numbers, uint64_t size, uint64_t bank, uint64_t m);
+ * operation. For a state's own size, start and BANK the value is what a performed read of the register reads. No room at all (a
+ * length of 0, NULL too) is 6, after 4 and 7. */
+struct brb_answer brb_bank_inf(const uint64_t *room, size_t room_numbers, uint64_t size, uint64_t start,
+                               uint64_t bank, uint64_t m);
+struct brb_answer brb_bank_source(const uint64_t *room, size_t room_numbers, uint64_t size, uint64_t start,
+                                  uint64_t bank, uint64_t m);
+struct brb_answer brb_bank_target(const uint64_t *room, size_t room_numbers, uint64_t size, uint64_t start,
+                                  uint64_t bank, uint64_t m);
 
 /* Recordings: operations one after another, each a code, its cycles and its fields. A number is in groups of seven bits,
  * low group first, top bit set when more follow, at most ten bytes, in its shortest form. */

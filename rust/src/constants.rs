@@ -12,13 +12,13 @@ const fn field(high: u32, low: u32) -> u64 {
 }
 
 /// The first part of the version, which grows where a host has to change.
-pub const VERSION_MAJOR: u64 = 3;
+pub const VERSION_MAJOR: u64 = 4;
 /// The second part of the version, which grows where something is added or an answer becomes another.
 pub const VERSION_MINOR: u64 = 0;
 /// The third part of the version.
 pub const VERSION_PATCH: u64 = 0;
 /// The version as text.
-pub const VERSION: &str = "3.0.0";
+pub const VERSION: &str = "4.0.0";
 
 /// Code of a reset.
 pub const CODE_RESET: u64 = 0;
@@ -104,7 +104,7 @@ pub const fn brbidr0_el1(size: u64) -> u64 {
 }
 
 /// How many numbers a state has.
-pub const STATE_NUMBERS: usize = 11;
+pub const STATE_NUMBERS: usize = 12;
 /// Where a state has the current level.
 pub const STATE_LEVEL: usize = 0;
 /// Where a state has the buffer's size, 0 before the first reset.
@@ -127,6 +127,8 @@ pub const STATE_UNKNOWN: usize = 8;
 pub const STATE_HALTED: usize = 9;
 /// Where a state has BRBTS_EL1.
 pub const STATE_BRBTS_EL1: usize = 10;
+/// Where a state has the starting number: at which place of the room record 0 stands.
+pub const STATE_START: usize = 11;
 
 /// How many numbers the records of a buffer of this size take.
 pub const fn room_numbers(size: usize) -> usize {

@@ -1,7 +1,7 @@
 //! A proved model of one processor's Arm branch record buffer, from Rust: a safe face of `include/brb.h`. The model's
 //! manual, `docs/MANUAL.md` of its repository, says what each operation does.
 //!
-//! The library keeps nothing between calls. The caller lends it the state (eleven numbers) and the room (three numbers a
+//! The library keeps nothing between calls. The caller lends it the state (twelve numbers) and the room (three numbers a
 //! record, newest first); each call changes them in place or, where it refuses, leaves every number as it was.
 //! [`Recorder`] holds the two together, owned or borrowed; [`step`] and [`read`] take them from anywhere. Recordings are
 //! read and written with [`recording_read`] and [`recording_write`], and stepped along with [`step_recorded`], one operation

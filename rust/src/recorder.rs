@@ -1,6 +1,6 @@
 //! A state and a room together.
 
-use crate::{Answer, Operation, Recorded, LARGEST_ROOM, STATE_NUMBERS, STATE_SIZE};
+use crate::{Answer, Operation, Recorded, LARGEST_ROOM, STATE_NUMBERS, STATE_SIZE, STATE_START};
 
 /// A state and a room, owned (the default) or borrowed.
 ///
@@ -94,15 +94,25 @@ where
         self.state.as_ref()
     }
 
-    /// The room's numbers, those past the records too.
+    /// The room's numbers, those past the records too. Record 0 stands where the state's [`STATE_START`] says.
     pub fn room(&self) -> &[u64] {
         self.room.as_ref()
     }
 
     /// The records, newest first, as BRBINF, BRBSRC and BRBTGT; none before the first reset.
+    ///
+    /// ```
+    /// use brb::{Operation, Recorder};
+    ///
+    /// let mut recorder = Recorder::new();
+    /// recorder.step(Operation::reset(8, true));
+    /// assert_eq!(recorder.records().collect::<Vec<_>>(), [[0; 3]; 8]);
+    /// ```
     pub fn records(&self) -> impl Iterator<Item = [u64; 3]> + '_ {
-        let size = self.state().get(STATE_SIZE).map_or(0, |&size| usize::try_from(size).unwrap_or(usize::MAX));
-        self.room().chunks_exact(3).take(size).map(|record| [record[0], record[1], record[2]])
+        let number = |place: usize| self.state().get(place).map_or(0, |&n| usize::try_from(n).unwrap_or(usize::MAX));
+        let size = number(STATE_SIZE).min(self.room().len() / 3);
+        let (before, from) = self.room()[..3 * size].split_at(3 * number(STATE_START).min(size));
+        from.chunks_exact(3).chain(before.chunks_exact(3)).map(|record| [record[0], record[1], record[2]])
     }
 
     /// The state and the room.

@@ -319,7 +319,7 @@ fn input_for(program: &[u8], usage: &[u8], next: Next) -> Input {
         }
         Next::Version => {
             io::write_all(STDOUT_FILENO, program);
-            io::write_all(STDOUT_FILENO, b" 3.0.0\n");
+            io::write_all(STDOUT_FILENO, b" 4.0.0\n");
             Input::Nothing
         }
         Next::Open(i) => open_argument(program, i),

@@ -1,10 +1,12 @@
-// The records, in the room that the caller lends (document 01, "Which events become records", last paragraph; docs/MANUAL.md,
-// "Records" and "State and room").
+// The records, in the room that the caller lends (document 01, "Which events become records", last paragraph; document 02, Seven;
+// docs/MANUAL.md, "Records" and "State and room").
 ghost use mathlib.Core.Path.{_≡_};
-ghost use mathlib.Core.List.{_++_};
-ghost use Prim.Native.Nat.{_+_, _≤_};
-ghost use lib.ListN.{length, getD, take, drop};
-ghost use Rattle.room.specs.Room.{zeroRecord, records, numbered, pushed, cleared, roomAfter};
+ghost use mathlib.Core.Bool.{cond};
+ghost use Prim.Native.Nat.{_+_, _*_, _-_, _≤_};
+ghost use lib.Dec.{ltb};
+ghost use lib.ListN.{length, getD};
+ghost use Rattle.room.specs.Room.{zeroRecord, records, numbered, below, written, pushed, cleared, roomAfter, startAfter};
+use bits::pick;
 
 // One branch record: BRBINF, BRBSRC and BRBTGT.
 pub struct Record {
@@ -29,7 +31,7 @@ impl Record {
 pub enum Effect {
     // Nothing.
     Keep,
-    // The new record becomes number 0.
+    // The new record becomes number 0, and each other number grows by one.
     Push(Record),
     // Every record becomes zero: BRB IALL.
     Clear,
@@ -37,34 +39,36 @@ pub enum Effect {
     ResetTo(u64),
 }
 
-// The first `kept` numbers move up three places, which is one record. It goes from the end towards the front, so that no
-// number is written over before it has moved.
-fn shift(room: &mut [u64], kept: usize)
-    requires { ⌜ kept + 3 ≤ length (now room) ⌝ }
-    ensures { λ _. ⌜ now (room .exit) ≡ take 3 (now (room .entry)) ++ (take kept (now (room .entry)) ++ drop (kept + 3) (now (room .entry))) ⌝ }
+// The place below the start, going round: where the next record goes.
+pub fn below(size: u64, start: u64) -> u64
+    ensures { λ r. ⌜ r ≡ below size start ⌝ }
 {
-    let mut j = kept;
-    while 0 < j {
-        j -= 1;
-        room[j + 3] = room[j];
-    }
+    let from = pick(start == 0, size, start);
+    if from == 0 { 0 } else { from - 1 }
 }
 
-// One more record, at the front. The room is tested by a division, so that no size overflows.
-pub fn push(room: &mut [u64], size: u64, r: Record)
-    ensures { λ _. ⌜ now (room .exit) ≡ pushed size r (now (room .entry)) ⌝ }
+// A record, at a place of the room: three numbers are written.
+fn write_at(room: &mut [u64], place: usize, r: Record)
+    requires { ⌜ 3 * place + 3 ≤ length (now room) ⌝ }
+    ensures { λ _. ⌜ now (room .exit) ≡ written place r (now (room .entry)) ⌝ }
 {
-    let count = size as usize;
-    if count == 0 {
+    room[3 * place] = r.inf;
+    room[3 * place + 1] = r.source;
+    room[3 * place + 2] = r.target;
+}
+
+// One more record, at the place below the start. The room is tested by a division, so that no size overflows.
+pub fn push(room: &mut [u64], size: u64, start: u64, r: Record)
+    ensures { λ _. ⌜ now (room .exit) ≡ pushed size start r (now (room .entry)) ⌝ }
+{
+    if size <= start {
         return;
     }
-    if room.len() / 3 < count {
+    if room.len() / 3 < size as usize {
         return;
     }
-    shift(room, 3 * count - 3);
-    room[0] = r.inf;
-    room[1] = r.source;
-    room[2] = r.target;
+    let place = below(size, start);
+    write_at(room, place as usize, r);
 }
 
 // Every record becomes zero. Numbers past the needed ones are not written.
@@ -83,15 +87,24 @@ pub fn clear(room: &mut [u64], size: u64)
     }
 }
 
-// The way by which an accepted operation writes the room: all else only decides on an effect.
-pub fn apply(room: &mut [u64], size: u64, effect: Effect)
-    ensures { λ _. ⌜ now (room .exit) ≡ roomAfter size effect (now (room .entry)) ⌝ }
+// The way by which an accepted operation writes the room: all else only decides on an effect. Its answer is the start after it.
+pub fn apply(room: &mut [u64], size: u64, start: u64, effect: Effect) -> u64
+    ensures { λ r. ⌜ (now (room .exit) ≡ roomAfter size start effect (now (room .entry))) × (r ≡ startAfter size start effect) ⌝ }
 {
     match effect {
-        Effect::Keep => {}
-        Effect::Push(r) => push(room, size, r),
-        Effect::Clear => clear(room, size),
-        Effect::ResetTo(n) => clear(room, n),
+        Effect::Keep => start,
+        Effect::Push(r) => {
+            push(room, size, start, r);
+            below(size, start)
+        }
+        Effect::Clear => {
+            clear(room, size);
+            0
+        }
+        Effect::ResetTo(n) => {
+            clear(room, n);
+            0
+        }
     }
 }
 
@@ -102,22 +115,36 @@ fn number_at(room: &[u64], place: usize) -> u64
     if place < room.len() { room[place] } else { 0 }
 }
 
-// Record number r, or a zero record where that is not below the size. A number above the room's length has no place in it, and
-// three times it could overflow.
-pub fn record_at(room: &[u64], size: u64, r: u64) -> Record
-    ensures { λ result. ⌜ result ≡ numbered r (records size (now (room .entry))) ⌝ }
+// The place of record r, where the start is a place. So many records stand from the start on, and the others, going round, from
+// the first place on.
+fn place(size: u64, start: u64, r: u64) -> u64
+    ensures { λ p. ⌜ p ≡ cond (ltb r (size - start)) (start + r) (r - (size - start)) ⌝ }
 {
-    let number = r as usize;
+    if size <= start {
+        return r;
+    }
+    if r < size - start {
+        return start + r;
+    }
+    r - (size - start)
+}
+
+// Record number r, or a zero record where that is not below the size. A place above the room's length is none, and three times it
+// could overflow.
+pub fn record_at(room: &[u64], size: u64, start: u64, r: u64) -> Record
+    ensures { λ result. ⌜ result ≡ numbered r (records size start (now (room .entry))) ⌝ }
+{
     if size <= r {
         return Record::zero();
     }
+    let number = place(size, start, r) as usize;
     if room.len() < number {
         return Record::zero();
     }
-    let place = 3 * number;
+    let at = 3 * number;
     Record {
-        inf: number_at(room, place),
-        source: number_at(room, place + 1),
-        target: number_at(room, place + 2),
+        inf: number_at(room, at),
+        source: number_at(room, at + 1),
+        target: number_at(room, at + 2),
     }
 }

@@ -1,24 +1,30 @@
--- `room::apply` meets its contract: each arm by what its callee promises, at the variant that the arm found.
+-- `room::apply` meets its contract: each arm by what its callees promise, at the variant that the arm found.
 use borrow.Author.Needs.{needs}
-use Rattle.room.specs.Room.{roomAfter}
+use Rattle.room.specs.Room.{roomAfter, startAfter}
 use Rattle.room.proofs.apply.Statement.{statement}
 use Rattle.room.proofs.apply.Tie as tie
 
 returns : tie.Need-returns
-unfolding roomAfter
-returns c = rw (c .enum-told .given .1)
+unfolding roomAfter startAfter
+returns c = let told = c .enum-told .given .1 in (rw told, rw told)
 
 returns-2 : tie.Need-returns-2
-unfolding roomAfter
-returns-2 c = rw (c .before .before .before .before .before .effect .given .1) (c .before .before .push .ensures)
+unfolding roomAfter startAfter
+returns-2 c =
+    let told = c .before .before .before .before .before .before .effect .given .1 in
+    (rw told (c .before .before .before .push .ensures), rw told (c .below .ensures))
 
 returns-3 : tie.Need-returns-3
-unfolding roomAfter
-returns-3 c = rw (c .before .before .before .before .enum-told2 .given .1) (c .before .before .clear .ensures)
+unfolding roomAfter startAfter
+returns-3 c =
+    let told = c .before .before .before .before .enum-told2 .given .1 in
+    (rw told (c .before .before .clear .ensures), rw told)
 
 returns-4 : tie.Need-returns-4
-unfolding roomAfter
-returns-4 c = rw (c .before .before .before .before .before .effect2 .given .1) (c .before .before .clear2 .ensures)
+unfolding roomAfter startAfter
+returns-4 c =
+    let told = c .before .before .before .before .before .effect2 .given .1 in
+    (rw told (c .before .before .clear2 .ensures), rw told)
 
 pub apply-spec : {M : Type 1} → statement M
 apply-spec =
@@ -26,6 +32,7 @@ apply-spec =
     (tie.spec
     (λ c. search needs)
     (λ c. search needs)
+    (λ _ _. tt)
     (λ _ _. tt)
     (λ c. search needs)
     (λ _ _. tt)
