@@ -134,9 +134,9 @@ pub fn meant(s: State, r: u64) -> u64
 
 // The number that a register of a record shows: BRBINF, BRBSRC or BRBTGT.
 fn shown_number(s: State, room: &[u64], r: u64) -> u64
-    ensures { λ x. ⌜ x ≡ shownNumber s (records (s .size) (now (room .entry))) r ⌝ }
+    ensures { λ x. ⌜ x ≡ shownNumber s (records (s .size) (s .start) (now (room .entry))) r ⌝ }
 {
-    let shown = record_at(room, s.size, r % 32 + 32 * s.bank());
+    let shown = record_at(room, s.size, s.start, r % 32 + 32 * s.bank());
     let after1 = pick(r / 32 == 2, shown.source, shown.target);
     pick(r / 32 == 1, shown.inf, after1)
 }
@@ -149,7 +149,7 @@ fn brbidr0(s: State) -> u64
 
 // What a performed read of a register shows.
 pub fn register_value(s: State, room: &[u64], r: u64) -> u64
-    ensures { λ x. ⌜ x ≡ registerValue s (records (s .size) (now (room .entry))) r ⌝ }
+    ensures { λ x. ⌜ x ≡ registerValue s (records (s .size) (s .start) (now (room .entry))) r ⌝ }
 {
     let shown = shown_number(s, room, r);
     let after3 = pick(r == 4, s.brbts, shown);

@@ -55,11 +55,12 @@ function callee = record {
   lifetimes = 1;
   outlives = [];
   params = 2;
-  locals = local (tyInt w64) valueLocal ∷ local (T′.mir (named 0)) valueLocal ∷ local (tyInt w64) valueLocal ∷ local (sliceTy (tyRef erased imm (tyInt w64))) valueLocal ∷ local (tyInt w64) valueLocal ∷ local (tyInt w64) valueLocal ∷ [];
+  locals = local (tyInt w64) valueLocal ∷ local (T′.mir (named 0)) valueLocal ∷ local (tyInt w64) valueLocal ∷ local (sliceTy (tyRef erased imm (tyInt w64))) valueLocal ∷ local (tyInt w64) valueLocal ∷ local (tyInt w64) valueLocal ∷ local (tyInt w64) valueLocal ∷ [];
   body = seq (assign (place 3 []) (rvOpd (copy (place 1 (field 0 ∷ [])))))
       (seq (assign (place 4 []) (rvOpd (copy (place 1 (field 1 ∷ [])))))
       (seq (assign (place 5 []) (rvOpd (copy (place 1 (field 2 ∷ [])))))
-      (seq (call callee (copy (place 3 []) ∷ copy (place 4 []) ∷ copy (place 5 []) ∷ copy (place 2 []) ∷ []) (place 0 [])) return)));
+      (seq (assign (place 6 []) (rvOpd (copy (place 1 (field 3 ∷ [])))))
+      (seq (call callee (copy (place 3 []) ∷ copy (place 4 []) ∷ copy (place 5 []) ∷ copy (place 6 []) ∷ copy (place 2 []) ∷ []) (place 0 [])) return))));
 }
 
 -- the view's type, over the signature's lifetimes
@@ -72,10 +73,10 @@ stayed = (stay-none B yes, (stay-none (λ _. u64) yes, tt))
 module _ {M : Type 1} (𝓤 : URA M) (H : Heap 𝓤) (A : Atoms 𝓤) (p : Record → ℕ) where
   -- the promises, of the function over a view and of the one on a slice
   abbrev pub shown : Clauses 𝓤 thin.ended
-  shown κs a = record { ghost = Unit {0}; requires = λ _. emp 𝓤; ensures = λ _ r _. fact 𝓤 (r ≡ p (viewShows (a .0 .size) (a .0 .first) (a .1 .0) (now (a .0 .records)))) }
+  shown κs a = record { ghost = Unit {0}; requires = λ _. emp 𝓤; ensures = λ _ r _. fact 𝓤 (r ≡ p (viewShows (a .0 .size) (a .0 .start) (a .0 .first) (a .1 .0) (now (a .0 .records)))) }
 
   abbrev pub shown-at : Clauses 𝓤 at.ended
-  shown-at κs a = record { ghost = Unit {0}; requires = λ _. emp 𝓤; ensures = λ _ r _. fact 𝓤 (r ≡ p (viewShows (a .1 .0) (a .1 .1 .0) (a .1 .1 .1 .0) (now (a .0)))) }
+  shown-at κs a = record { ghost = Unit {0}; requires = λ _. emp 𝓤; ensures = λ _ r _. fact 𝓤 (r ≡ p (viewShows (a .1 .0) (a .1 .1 .0) (a .1 .1 .1 .0) (a .1 .1 .1 .1 .0) (now (a .0)))) }
 
   abbrev pub At : Contract 𝓤
   At = tripleOf 𝓤 H A at.signature (closing 𝓤 H A at.ended shown-at)
@@ -88,7 +89,7 @@ module _ {M : Type 1} (𝓤 : URA M) (H : Heap 𝓤) (A : Atoms 𝓤) (W : Given
   vals = (mach ∷ [], (vint w64 m ∷ [], tt))
 
   abbrev found : ℕ
-  found = p (viewShows (d .size) (d .first) m (now (d .records)))
+  found = p (viewShows (d .size) (d .start) (d .first) m (now (d .records)))
 
   abbrev Post : Val → SProp 𝓤
   Post = walkOf 𝓤 H A thin.ended stayed (shown 𝓤 H A p) .post (((κ, tt), (q, tt), tt, (d, (m, tt)), vals), tt)
@@ -104,29 +105,30 @@ module _ {M : Type 1} (𝓤 : URA M) (H : Heap 𝓤) (A : Atoms 𝓤) (W : Given
   L = T′.the-laws (namedLft 1 0 tt (κ, tt))
 
   abbrev vd : Values (D .parts)
-  vd = (d .records, (d .size, (d .first, tt)))
+  vd = (d .records, (d .size, (d .start, (d .first, tt))))
 
   -- what the callee is passed
-  abbrev x : RefT (List ℕ) × (ℕ × (ℕ × (ℕ × Unit {0})))
-  x = (d .records, (d .size, (d .first, (m, tt))))
+  abbrev x : RefT (List ℕ) × (ℕ × (ℕ × (ℕ × (ℕ × Unit {0}))))
+  x = (d .records, (d .size, (d .start, (d .first, (m, tt)))))
 
-  abbrev passed : List Val × (List Val × (List Val × (List Val × Unit {0})))
-  passed = (sliceVal (d .records .ptr) (length (d .records .now)) ∷ [], (vint w64 (d .size) ∷ [], (vint w64 (d .first) ∷ [], (vint w64 m ∷ [], tt))))
+  abbrev passed : List Val × (List Val × (List Val × (List Val × (List Val × Unit {0}))))
+  passed = (sliceVal (d .records .ptr) (length (d .records .now)) ∷ [], (vint w64 (d .size) ∷ [], (vint w64 (d .start) ∷ [], (vint w64 (d .first) ∷ [], (vint w64 m ∷ [], tt)))))
 
   abbrev to : At 𝓤 H A p .Ghost
   to = (((κ, tt), (q, tt), tt, x, passed), tt)
 
   asked : ent 𝓤 (onEntry 𝓤 H A at.signature (κ, tt) (q, tt) x passed) (At 𝓤 H A p .pre to)
-  asked = qed W ((‵ (flft κ q) ⊛ ‵ ftrue) ∷ ‵ (owns (ShrSlice (named 0) κ u64 ∷ u64 ∷ u64 ∷ u64 ∷ []) x passed) ∷ []) ∵ join ! $ frame ! $ done !
+  asked = qed W ((‵ (flft κ q) ⊛ ‵ ftrue) ∷ ‵ (owns (ShrSlice (named 0) κ u64 ∷ u64 ∷ u64 ∷ u64 ∷ u64 ∷ []) x passed) ∷ []) ∵ join ! $ frame ! $ done !
 
   -- what the view owns gives what the callee asks, and is kept
-  apart : d .size < 2 ^ 64 → d .first < 2 ^ 64 → ent 𝓤 (onEntry 𝓤 H A thin.signature (κ, tt) (q, tt) (d, (m, tt)) vals) (sep 𝓤 (At 𝓤 H A p .pre to) (sem 𝓤 H A Own))
-  apart size-fits first-fits =
+  apart : d .size < 2 ^ 64 → d .start < 2 ^ 64 → d .first < 2 ^ 64 → ent 𝓤 (onEntry 𝓤 H A thin.signature (κ, tt) (q, tt) (d, (m, tt)) vals) (sep 𝓤 (At 𝓤 H A p .pre to) (sem 𝓤 H A Own))
+  apart size-fits start-fits first-fits =
       qed W ((‵ (flft κ q) ⊛ ‵ ftrue) ∷ ‵ (owns (B (κ, tt) ∷ u64 ∷ []) (d, (m, tt)) vals) ∷ []) ∵
       move ! (1 ∷ []) $ fsplit ! $ move ! (1 ∷ []) $ drop ! $ use1 W (‵ Own ⊛ ‵ Own) (LL.copy D (T′.the-copy (namedLft 1 0 tt (κ, tt))) 𝓤 H A W .twice d (mach ∷ [])) $ split ! $
       use1 W (given (mach ∷ [] ≡ mach ∷ []) (‵ (all-own (D .parts) L vd))) (own-open 𝓤 H A W D L vd mach) $ learn ! (λ _. fsplit ! $ move ! (1 ∷ []) $ drop ! $
       -- [what the slice owns; what the view owns; the token]
       nothing ! $ owned ! u64 (Is u64) (uint-makes 𝓤 H A W w64) m _ (refl, fits) $ fjoin ! $ owned ! u64 (Is u64) (uint-makes 𝓤 H A W w64) (d .first) _ (refl, first-fits) $ fjoin ! $
+      owned ! u64 (Is u64) (uint-makes 𝓤 H A W w64) (d .start) _ (refl, start-fits) $ fjoin ! $
       owned ! u64 (Is u64) (uint-makes 𝓤 H A W w64) (d .size) _ (refl, size-fits) $ fjoin ! $ move ! (1 ∷ 0 ∷ []) $ fjoin ! $
       move ! (2 ∷ 0 ∷ []) $ use2 W (raw (At 𝓤 H A p .pre to)) asked $ frame ! $ done !)
 
@@ -143,20 +145,21 @@ module _ {M : Type 1} (𝓤 : URA M) (H : Heap 𝓤) (A : Atoms 𝓤) (W : Given
     walk : Holds (hasTy (T′.mir (named 0)) mach) × WT mach → ent 𝓤 (onEntry 𝓤 H A thin.signature (κ, tt) (q, tt) (d, (m, tt)) vals) (WpFn 𝓤 H C Λ (function callee) (mach ∷ vint w64 m ∷ []) Post)
     walk wt =
         qed W (raw (onEntry 𝓤 H A thin.signature (κ, tt) (q, tt) (d, (m, tt)) vals) ∷ []) ∵ enter ! C Λ (function callee) (mach ∷ vint w64 m ∷ []) _ $
-        alloc1 ! (λ l₀. alloc1 ! (λ l₁. alloc1 ! (λ l₂. alloc1 ! (λ l₃. alloc1 ! (λ l₄. alloc1 ! (λ l₅. alloc0 ! $ params1 ! $ pass1 ! (init ! 8 refl wt) $ pass1 ! (init ! 6 refl (tt, record { fits = fits })) $ pass0 ! $
-        assigns ! (of-opd ! (load ! (from ! (fld ! refl (stop !))) (look-in ! 8 (sub ! 0 refl (whole !))))) (from ! (stop !)) (init ! 4 refl (tt, wt .1 .0)) $
-        assigns ! (of-opd ! (load ! (from ! (fld ! refl (stop !))) (look-in ! 8 (sub ! 1 refl (whole !))))) (from ! (stop !)) (init ! 2 refl (tt, wt .1 .1 .0)) $
-        assigns ! (of-opd ! (load ! (from ! (fld ! refl (stop !))) (look-in ! 8 (sub ! 2 refl (whole !))))) (from ! (stop !)) (init ! 0 refl (tt, wt .1 .1 .1 .0)) $
-        move ! (12 ∷ []) $ use1 W (raw (At 𝓤 H A p .pre to) ⊛ ‵ Own) (apart (wt .1 .1 .0 .fits) (wt .1 .1 .1 .0 .fits)) $ split ! $
-        -- [what the callee asks; what the view owns; _5; …; _4; …; _3; …; _2; …; _1; …; room for _0; …]
-        calls-at ! fm (At 𝓤 H A p) known to (and-then ! (load ! (from ! (stop !)) (look ! 6 refl)) (and-then ! (load ! (from ! (stop !)) (look ! 4 refl)) (and-then ! (load ! (from ! (stop !)) (look ! 2 refl)) (and-then ! (load ! (from ! (stop !)) (look ! 8 refl)) (no-more !))))) (λ u.
+        alloc1 ! (λ l₀. alloc1 ! (λ l₁. alloc1 ! (λ l₂. alloc1 ! (λ l₃. alloc1 ! (λ l₄. alloc1 ! (λ l₅. alloc1 ! (λ l₆. alloc0 ! $ params1 ! $ pass1 ! (init ! 10 refl wt) $ pass1 ! (init ! 8 refl (tt, record { fits = fits })) $ pass0 ! $
+        assigns ! (of-opd ! (load ! (from ! (fld ! refl (stop !))) (look-in ! 10 (sub ! 0 refl (whole !))))) (from ! (stop !)) (init ! 6 refl (tt, wt .1 .0)) $
+        assigns ! (of-opd ! (load ! (from ! (fld ! refl (stop !))) (look-in ! 10 (sub ! 1 refl (whole !))))) (from ! (stop !)) (init ! 4 refl (tt, wt .1 .1 .0)) $
+        assigns ! (of-opd ! (load ! (from ! (fld ! refl (stop !))) (look-in ! 10 (sub ! 2 refl (whole !))))) (from ! (stop !)) (init ! 2 refl (tt, wt .1 .1 .1 .0)) $
+        assigns ! (of-opd ! (load ! (from ! (fld ! refl (stop !))) (look-in ! 10 (sub ! 3 refl (whole !))))) (from ! (stop !)) (init ! 0 refl (tt, wt .1 .1 .1 .1 .0)) $
+        move ! (14 ∷ []) $ use1 W (raw (At 𝓤 H A p .pre to) ⊛ ‵ Own) (apart (wt .1 .1 .0 .fits) (wt .1 .1 .1 .0 .fits) (wt .1 .1 .1 .1 .0 .fits)) $ split ! $
+        -- [what the callee asks; what the view owns; _6; …; _5; …; _4; …; _3; …; _2; …; _1; …; room for _0; …]
+        calls-at ! fm (At 𝓤 H A p) known to (and-then ! (load ! (from ! (stop !)) (look ! 8 refl)) (and-then ! (load ! (from ! (stop !)) (look ! 6 refl)) (and-then ! (load ! (from ! (stop !)) (look ! 4 refl)) (and-then ! (load ! (from ! (stop !)) (look ! 2 refl)) (and-then ! (load ! (from ! (stop !)) (look ! 10 refl)) (no-more !)))))) (λ u.
         use1 W (later (some (λ (r : ℕ). ((‵ (flft κ q) ⊛ ‵ ftrue) ⊛ ‵ (u64 .own r (u ∷ []))) ⊛ raw (ensured 𝓤 H A at.ended (shown-at 𝓤 H A p) (κ, tt) x tt r)))) (id⊢ 𝓤 _) $ await ! tt $ pick ! (λ r.
         split ! $ move ! (1 ∷ []) $ use1 W (raw (fact 𝓤 (r ≡ found))) (said r) $ heard ! (r ≡ found) (λ e. split ! $ move ! (1 ∷ []) $
-        -- [the result; the token; what the view owns; _5; …; _4; …; _3; …; _2; …; _1; …; room for _0; …]
+        -- [the result; the token; what the view owns; _6; …; _5; …; _4; …; _3; …; _2; …; _1; …; room for _0; …]
         peeks ! u64 (Is u64) (shows 𝓤 H A u64) r (u ∷ []) (λ is.
-        land ! (from ! (stop !)) (init ! 13 refl (uint-lawful 𝓤 H A W w64 .typed r _ is .0)) $
-        returns ! (look ! 13 refl) $ forget ! 3 refl $ forget ! 5 refl $ forget ! 7 refl $ forget ! 9 refl $ forget ! 11 refl $ forget ! 13 refl $
-        move ! (13 ∷ 14 ∷ []) $ free1 ! $ move ! (11 ∷ 12 ∷ []) $ free1 ! $ move ! (9 ∷ 10 ∷ []) $ free1 ! $ move ! (7 ∷ 8 ∷ []) $ free1 ! $ move ! (5 ∷ 6 ∷ []) $ free1 ! $ move ! (3 ∷ 4 ∷ []) $ free1 ! $ free0 ! $ by ! (exits r u e)))))))))))
+        land ! (from ! (stop !)) (init ! 15 refl (uint-lawful 𝓤 H A W w64 .typed r _ is .0)) $
+        returns ! (look ! 15 refl) $ forget ! 3 refl $ forget ! 5 refl $ forget ! 7 refl $ forget ! 9 refl $ forget ! 11 refl $ forget ! 13 refl $ forget ! 15 refl $
+        move ! (15 ∷ 16 ∷ []) $ free1 ! $ move ! (13 ∷ 14 ∷ []) $ free1 ! $ move ! (11 ∷ 12 ∷ []) $ free1 ! $ move ! (9 ∷ 10 ∷ []) $ free1 ! $ move ! (7 ∷ 8 ∷ []) $ free1 ! $ move ! (5 ∷ 6 ∷ []) $ free1 ! $ move ! (3 ∷ 4 ∷ []) $ free1 ! $ free0 ! $ by ! (exits r u e))))))))))))
 
 module _ {M : Type 1} (𝓤 : URA M) (H : Heap 𝓤) (A : Atoms 𝓤) (W : Given 𝓤 H A) (callee : Name) (p : Record → ℕ) where
   walks : (C : Calls 𝓤 H) (Λ : Loops 𝓤 H) → FmC 𝓤 H (W .laws) C → Triple 𝓤 (C callee) (At 𝓤 H A p) → Walks 𝓤 H A thin.ended stayed (WpFn 𝓤 H C Λ (function callee)) (shown 𝓤 H A p)

@@ -85,28 +85,28 @@ pub extern "C" fn brb_count_sum(run: &[u64]) -> Spread
 
 // BRBINF of register m, as one bank of a room shows it.
 #[no_mangle]
-pub extern "C" fn brb_bank_inf(room: &[u64], size: u64, bank: u64, m: u64) -> Returned
-    ensures { λ r. ⌜ r ≡ returned (bankShows (λ x. x .inf) size bank m (now (room .entry))) ⌝ }
+pub extern "C" fn brb_bank_inf(room: &[u64], size: u64, start: u64, bank: u64, m: u64) -> Returned
+    ensures { λ r. ⌜ r ≡ returned (bankShows (λ x. x .inf) size start bank m (now (room .entry))) ⌝ }
 {
-    let shown = bank_inf(room, size, bank, m);
+    let shown = bank_inf(room, size, start, bank, m);
     shown.returned()
 }
 
 // BRBSRC of register m, as one bank of a room shows it.
 #[no_mangle]
-pub extern "C" fn brb_bank_source(room: &[u64], size: u64, bank: u64, m: u64) -> Returned
-    ensures { λ r. ⌜ r ≡ returned (bankShows (λ x. x .source) size bank m (now (room .entry))) ⌝ }
+pub extern "C" fn brb_bank_source(room: &[u64], size: u64, start: u64, bank: u64, m: u64) -> Returned
+    ensures { λ r. ⌜ r ≡ returned (bankShows (λ x. x .source) size start bank m (now (room .entry))) ⌝ }
 {
-    let shown = bank_source(room, size, bank, m);
+    let shown = bank_source(room, size, start, bank, m);
     shown.returned()
 }
 
 // BRBTGT of register m, as one bank of a room shows it.
 #[no_mangle]
-pub extern "C" fn brb_bank_target(room: &[u64], size: u64, bank: u64, m: u64) -> Returned
-    ensures { λ r. ⌜ r ≡ returned (bankShows (λ x. x .target) size bank m (now (room .entry))) ⌝ }
+pub extern "C" fn brb_bank_target(room: &[u64], size: u64, start: u64, bank: u64, m: u64) -> Returned
+    ensures { λ r. ⌜ r ≡ returned (bankShows (λ x. x .target) size start bank m (now (room .entry))) ⌝ }
 {
-    let shown = bank_target(room, size, bank, m);
+    let shown = bank_target(room, size, start, bank, m);
     shown.returned()
 }
 

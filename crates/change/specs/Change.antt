@@ -53,7 +53,7 @@ effectOf s o running = does s o .asks running
 
 -- What an accepted operation answers, where the records stand in this room.
 unfoldable pub answerOf : State → Operation → List ℕ → Answer
-answerOf s o room = does s o .answers (records (s .size) room)
+answerOf s o room = does s o .answers (records (s .size) (s .start) room)
 
 -- The running count after the effect: a record takes it, and it runs anew from 0, known again; BRB IALL lets it run on; a
 -- reset drops it, its own cycles too, as `afterReset` has it. (R_KVRBB: a count is of the cycles since the record before.)

@@ -13,10 +13,11 @@ use Rattle.bits.proofs.Cases.{never}
 use Rattle.state.specs.declared.State.{State}
 use Rattle.state.specs.declared.Running.{Running}
 use Rattle.state.specs.Named.{E2H, PAUSED, BANK, side, withRunning}
+use Rattle.state.proofs.Laws.{start-below}
 use Rattle.room.specs.declared.Record.{Record}
 use Rattle.room.specs.declared.Effect.{Effect}
 use Rattle.room.specs.declared.Effect.the-variants.{Keep, Push, Clear, ResetTo}
-use Rattle.room.specs.Room.{zeroRecord, records, numbered, needed, roomAfter}
+use Rattle.room.specs.Room.{zeroRecord, records, numbered, needed, roomAfter, startAfter}
 use Rattle.room.proofs.Laws.{sizeAfterEffect, length-records, records-pushed, records-cleared}
 use Rattle.region.specs.Region.{prohibited}
 use Rattle.event.specs.declared.Event.{Event}
@@ -27,6 +28,7 @@ use Rattle.answer.specs.Answer.{isDone}
 use Rattle.access.specs.Access.{readOutcome, iallOutcome, meant, shownRecord, shownNumber, registerValue}
 use Rattle.operation.specs.declared.Operation.{Operation}
 use Rattle.operation.specs.declared.Operation.the-variants.{Reset, Branch, Exception, Return, Platform, Read, Write, Iall, Halt, Resume, Freeze, Unknown}
+use Rattle.operation.specs.Operation.{codeOf}
 use Rattle.operation.specs.Refusal.{notReset, refusalOf}
 use Rattle.operation.specs.Clause.{changed}
 use Rattle.operation.proofs.Size.{Resets, is-reset, no-reset, resets, size-kept}
@@ -38,7 +40,7 @@ use Rattle.running.specs.Ran.{ran}
 use Rattle.recorder.specs.Result.{together}
 use Rattle.recorder.specs.Step.{accepted, stepOf}
 use Rattle.recorder.proofs.Laws.{accepted-step, refused-step}
-use Rattle.demands.specs.After.{recordsAfter, IsEvent, branch, exception, return, halt, resume, entered, eventOf, IsAccess, read, write, iall}
+use Rattle.demands.specs.After.{recordsAfter, recordsLeft, IsEvent, branch, exception, return, halt, resume, entered, eventOf, IsAccess, read, write, iall}
 
 -- ---- inside-prohibited: an event wholly inside a prohibited region changes no record
 
@@ -60,14 +62,27 @@ effect-inside s r return source target = made-none s r _ _ source target
 effect-inside s r halt source target = made-none s r _ _ source target
 effect-inside s r resume source target = made-none s r _ _ source target
 
+event-sets-no-size : {o : Operation} → IsEvent o → eqb (codeOf o) 0 ≡ false
+event-sets-no-size branch = refl
+event-sets-no-size exception = refl
+event-sets-no-size return = refl
+event-sets-no-size halt = refl
+event-sets-no-size resume = refl
+
 pub inside-prohibited : (s : State) {o : Operation} (cycles : ℕ) (room : List ℕ) (e : IsEvent o) → prohibited s (side s) ≡ true
-    → prohibited s (entered s e) ≡ true → stepOf s o cycles room .room ≡ room
-unfolding accepted roomAfter
+    → prohibited s (entered s e) ≡ true
+    → (stepOf s o cycles room .room ≡ room) × (recordsLeft (stepOf s o cycles room) ≡ records (s .size) (s .start) room)
+unfolding accepted roomAfter startAfter
 inside-prohibited s {o} cycles room e source target = go (ℕ-discrete (refusalOf s o (length room)) 0)
   where
-    go : Dec (refusalOf s o (length room) ≡ 0) → stepOf s o cycles room .room ≡ room
-    go (yes h) = rw (accepted-step s o cycles room h, effect-inside s (passed s o cycles) e source target)
-    go (no h) = rw (refused-step s o cycles room h)
+    go : Dec (refusalOf s o (length room) ≡ 0)
+        → (stepOf s o cycles room .room ≡ room) × (recordsLeft (stepOf s o cycles room) ≡ records (s .size) (s .start) room)
+    go (yes h) =
+        let keeps = effect-inside s (passed s o cycles) e source target in (
+          rw (accepted-step s o cycles room h, keeps),
+          rw (accepted-step s o cycles room h, keeps) (ap (λ (size : ℕ). records size (s .start) room) (size-kept s o (event-sets-no-size e))),
+        )
+    go (no h) = (rw (refused-step s o cycles room h), rw (refused-step s o cycles room h))
 
 -- ---- hidden-address-zero: a record holds 0 where the address of its prohibited side would stand
 
@@ -140,29 +155,30 @@ event-sized s return h = sized (s .size) h
 event-sized s halt h = sized (s .size) h
 event-sized s resume h = sized (s .size) h
 
-effect-records : (size : ℕ) (e : Effect) (room : List ℕ) → ((new : Record) → e ≡ Push new → 1 ≤ size)
+effect-records : (size start : ℕ) (e : Effect) (room : List ℕ) → ((new : Record) → e ≡ Push new → start < size)
     → needed (sizeAfterEffect size e) ≤ length room
-    → records (sizeAfterEffect size e) (roomAfter size e room) ≡ recordsAfter size e (records size room)
-unfolding roomAfter recordsAfter
-effect-records size Keep room one enough = refl
-effect-records size (Push new) room one enough = records-pushed size new room (one new refl) enough
-effect-records size Clear room one enough = records-cleared size room enough
-effect-records size (ResetTo n) room one enough = records-cleared n room enough
+    → records (sizeAfterEffect size e) (startAfter size start e) (roomAfter size start e room) ≡ recordsAfter size e (records size start room)
+unfolding roomAfter startAfter recordsAfter
+effect-records size start Keep room place enough = refl
+effect-records size start (Push new) room place enough = records-pushed size start new room (place new refl) enough
+effect-records size start Clear room place enough = records-cleared size room enough
+effect-records size start (ResetTo n) room place enough = records-cleared n room enough
 
 -- After an accepted operation the records are exactly those that its effect makes of the records before it: the new record in
 -- front and the oldest lost, or the list unchanged, or all zero. Which of them, and every field of the new record, is
 -- decided by the definition `effectOf`, at the running count that the operations have brought.
 pub newest : (s : State) (o : Operation) (cycles : ℕ) (room : List ℕ) → refusalOf s o (length room) ≡ 0
-    → records (changed s o .size) (stepOf s o cycles room .room)
-    ≡ recordsAfter (s .size) (effectOf s o (passed s o cycles)) (records (s .size) room)
+    → recordsLeft (stepOf s o cycles room) ≡ recordsAfter (s .size) (effectOf s o (passed s o cycles)) (records (s .size) (s .start) room)
 unfolding accepted
 newest s o cycles room h =
     let a = accepts s o (length room) h in
     let r = passed s o cycles in
     let size = size-after s o r in
     rw (accepted-step s o cycles room h)
-    (ap (λ (n : ℕ). records n (roomAfter (s .size) (effectOf s o r) room)) size
-    ∙ effect-records (s .size) (effectOf s o r) room (λ new p. event-sized s (pushed-by s o r new p) (a .was-reset)) (rw size at (a .room-enough)))
+    (ap (λ (n : ℕ). records n (startAfter (s .size) (s .start) (effectOf s o r)) (roomAfter (s .size) (s .start) (effectOf s o r) room)) size
+    ∙ effect-records (s .size) (s .start) (effectOf s o r) room
+    (λ new p. start-below s (a .is-sound) (event-sized s (pushed-by s o r new p) (a .was-reset)))
+    (rw size at (a .room-enough)))
 
 -- ---- read-shows: what a record register shows is number m + 32 × BANK of the list
 
@@ -185,14 +201,14 @@ read-shows s list m h =
     )
 
 -- ... and past the size it shows 0.
-pub read-past : (s : State) (size m : ℕ) (room : List ℕ) → size ≤ m + 32 * BANK s
-    → numbered (m + 32 * BANK s) (records size room) ≡ zeroRecord
+pub read-past : (s : State) (size start m : ℕ) (room : List ℕ) → size ≤ m + 32 * BANK s
+    → numbered (m + 32 * BANK s) (records size start room) ≡ zeroRecord
 unfolding numbered
-read-past s size m room h = List·getD-eq-default (records size room) zeroRecord (rw (length-records size room) h)
+read-past s size start m room h = List·getD-eq-default (records size start room) zeroRecord (rw (length-records size start room) h)
 
 -- What a performed read answers.
 pub read-answer : (s : State) (r cycles : ℕ) (room : List ℕ) → refusalOf s (Read r) (length room) ≡ 0 → readOutcome s r ≡ Done
-    → stepOf s (Read r) cycles room .answer ≡ Value (registerValue s (records (s .size) room) (meant s r))
+    → stepOf s (Read r) cycles room .answer ≡ Value (registerValue s (records (s .size) (s .start) room) (meant s r))
 unfolding accepted answerOf
 read-answer s r cycles room h done = rw (accepted-step s (Read r) cycles room h, done)
 
@@ -207,7 +223,7 @@ past-the-size s kind m cycles room low h past accept done =
     let itself : meant s r ≡ r = rw (ne-eqb r 1 (omega arith)) (never-wanted (eqb (s .level) 2 && E2H s) 2 r) in
     let number : r % 32 ≡ m = omega arith in
     read-answer s r cycles room accept done
-    ∙ ap Value (rw (itself, record-register s (records (s .size) room) r (omega arith), number, read-past s (s .size) m room past) (all-zero (eqb (r / 32) 1) (eqb (r / 32) 2)))
+    ∙ ap Value (rw (itself, record-register s (records (s .size) (s .start) room) r (omega arith), number, read-past s (s .size) (s .start) m room past) (all-zero (eqb (r / 32) 1) (eqb (r / 32) 2)))
   where
     all-zero : (a b : Bool) → _≡_ {A = ℕ} (cond a 0 (cond b 0 0)) 0
     all-zero true b = refl
@@ -222,7 +238,7 @@ pub not-performed : (s : State) {o : Operation} (cycles : ℕ) (room : List ℕ)
     → isDone (answerOf s o room) ≡ false
     → stepOf s o cycles room
     ≡ together (answerOf s o room) (withRunning (ran (s .running) (prohibited s (side s)) cycles) s) room
-unfolding accepted changed effectOf roomAfter answerOf passed
+unfolding accepted changed effectOf roomAfter startAfter answerOf passed
 not-performed s {o} cycles room h a ended = rw (accepted-step s o cycles room h) (go a ended)
   where
     go : {o : Operation} → IsAccess o → isDone (answerOf s o room) ≡ false

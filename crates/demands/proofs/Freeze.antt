@@ -13,9 +13,9 @@ use Rattle.bits.proofs.Cases.{never}
 use Rattle.bits.proofs.WithBit.{is-set, others-stay}
 use Rattle.state.specs.declared.State.{State}
 use Rattle.state.specs.Parts.{withNumber}
-use Rattle.state.specs.Named.{E2H, PAUSED, side, frozenAt, withRunning}
+use Rattle.state.specs.Named.{E2H, PAUSED, side, frozenAt, withRunning, withStart}
 use Rattle.state.specs.Sound.{filterMask}
-use Rattle.room.specs.Room.{roomAfter}
+use Rattle.room.specs.Room.{roomAfter, startAfter}
 use Rattle.region.specs.Region.{prohibited}
 use Rattle.running.specs.Ran.{ran}
 use Rattle.freeze.specs.Freeze.{freezes, time, overflowed}
@@ -43,9 +43,17 @@ pub freeze-sets : (s : State) (group physical virtualOffset guestOffset cycles :
     ≡ together Done
     (withRunning (ran (s .running) (prohibited s (side s)) cycles) (cond (freezes s group) (frozenAt (time s physical virtualOffset guestOffset) s) s))
     room
-unfolding accepted changed effectOf roomAfter answerOf passed overflowed
+unfolding accepted changed effectOf roomAfter startAfter answerOf passed overflowed
 freeze-sets s group physical virtualOffset guestOffset cycles room h =
     rw (accepted-step s (Freeze group physical virtualOffset guestOffset) cycles room h, freeze-occasion s group physical virtualOffset guestOffset)
+    (ap (λ (after : State). together Done after room) (start-stays (freezes s group)))
+  where
+    after : Bool → State
+    after freezes = withRunning (ran (s .running) (prohibited s (side s)) cycles) (cond freezes (frozenAt (time s physical virtualOffset guestOffset) s) s)
+
+    start-stays : (freezes : Bool) → withStart (s .start) (after freezes) ≡ after freezes
+    start-stays true = refl
+    start-stays false = refl
 
 -- Frozen at a time: PAUSED is 1; BRBFCR_EL1's bits above it and below it are as they were; BRBTS_EL1 is the time; and with these two numbers put
 -- back, the state is what it was.

@@ -7,7 +7,9 @@ use Rattle.state.specs.Named.{debugState, side}
 use Rattle.room.specs.declared.Record.{Record}
 use Rattle.room.specs.declared.Effect.{Effect}
 use Rattle.room.specs.declared.Effect.the-variants.{Keep, Push, Clear, ResetTo}
-use Rattle.room.specs.Room.{zeroRecord}
+use Rattle.room.specs.Room.{zeroRecord, records}
+use Rattle.answer.specs.declared.Answer.{Answer}
+use Rattle.recorder.specs.Result.{Result}
 use Rattle.operation.specs.declared.Operation.{Operation}
 use Rattle.operation.specs.declared.Operation.the-variants.{Branch, Exception, Return, Read, Write, Iall, Halt, Resume}
 use Rattle.event.specs.declared.Event.{Event}
@@ -20,6 +22,10 @@ recordsAfter size Keep list = list
 recordsAfter size (Push new) list = new ∷ take (size - 1) list
 recordsAfter size Clear list = replicate size zeroRecord
 recordsAfter size (ResetTo n) list = replicate n zeroRecord
+
+-- The records that a step leaves, as reads show them.
+abbrev pub recordsLeft : Result Answer State → List Record
+recordsLeft after = records (after .state .size) (after .state .start) (after .room)
 
 -- The operation is an event: a taken branch, an exception, an exception return, a halt or a resume. It leaves the side where the
 -- processor is: its level, or Debug state while it is halted.

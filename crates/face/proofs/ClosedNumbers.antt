@@ -12,7 +12,7 @@ use Rattle.number.specs.Number.{numberIn, numberAt}
 use Rattle.state.specs.Parts.{stateNumbers}
 use Rattle.state.specs.Sound.{unavailable, sound}
 use Rattle.state.specs.Words.{loaded, judged, stored}
-use Rattle.room.specs.Room.{records, cleared, roomAfter}
+use Rattle.room.specs.Room.{inPlace, records, cleared, roomAfter, startAfter}
 use Rattle.region.specs.Region.{enabled, prohibited}
 use Rattle.access.specs.Access.{nBit, trapped2, outcome, readOutcome, writeOutcome, registerWritten, registerValue}
 use Rattle.operation.specs.Operation.{lastCode, operationOf}
@@ -57,7 +57,7 @@ pub each-number : number [] 24 0 8 0 ∷ number (words 4 0) 24 0 8 0 ∷ number 
     ∷ number (words 1 1) 24 6 1 0
     ∷ []
     ≡ 7 ∷ 7 ∷ 2 ∷ 3 ∷ 4 ∷ 4 ∷ 8 ∷ 5 ∷ 6 ∷ 0 ∷ 100 ∷ 100 ∷ 102 ∷ 103 ∷ []
-unfolding loaded judged stored unavailable sound cleared roomAfter enabled prohibited nBit trapped2 outcome readOutcome writeOutcome registerWritten operationOf unknownCode notReset outsideList wrongHalted wrongLevel roomTooShort refusalOf changed occasion passed effectOf answerOf accepted stepOf lentStep stepResult
+unfolding loaded judged stored unavailable sound cleared roomAfter startAfter enabled prohibited nBit trapped2 outcome readOutcome writeOutcome registerWritten operationOf unknownCode notReset outsideList wrongHalted wrongLevel roomTooShort refusalOf changed occasion passed effectOf answerOf accepted stepOf lentStep stepResult
 each-number = refl
 
 -- 7 with nothing read; 1 at the end of the input; 2 for the first code past the last, whose cycles are not there; 1 for code 0 without cycles; 3 for BRB IALL
@@ -76,7 +76,7 @@ batch state size = batchResult state (replicate 24 5) (7 ∷ 0 ∷ 0 ∷ 0 ∷ 8
 pub closed-batch : (batch fresh 9 ≡ batched (record { number = 0; value = 4 }) (words 3 0) (replicate 24 0) (3 ∷ 0 ∷ 0 ∷ 0 ∷ 0 ∷ 0x5008 ∷ 2 ∷ 0 ∷ 9 ∷ []))
     × (batch fresh 7 ≡ batched (record { number = 6; value = 0 }) fresh (replicate 24 5) (replicate 7 9))
     × (batch [] 9 ≡ batched (record { number = 7; value = 0 }) [] (replicate 24 5) (replicate 9 9))
-unfolding numberIn numberAt loaded judged stored unavailable sound cleared roomAfter records enabled prohibited nBit trapped2 outcome readOutcome registerValue operationOf unknownCode notReset outsideList wrongHalted wrongLevel roomTooShort refusalOf changed occasion passed effectOf answerOf accepted stepOf lentStep fieldCount numbersAt operationAt readFrom readings steps inNumbers batchOf batchResult
+unfolding numberIn numberAt loaded judged stored unavailable sound cleared roomAfter startAfter inPlace records enabled prohibited nBit trapped2 outcome readOutcome registerValue operationOf unknownCode notReset outsideList wrongHalted wrongLevel roomTooShort refusalOf changed occasion passed effectOf answerOf accepted stepOf lentStep fieldCount numbersAt operationAt readFrom readings steps inNumbers batchOf batchResult
 closed-batch = (refl, refl, refl)
 
 -- What single encodings are answered: one count, four counts, those of P8, one that exceeded, and no encoding.

@@ -13,7 +13,7 @@ use Rattle.state.specs.Parts.{stateNumbers}
 use Rattle.state.specs.Sound.{unavailable, sound}
 use Rattle.state.specs.Words.{loaded, judged, stored}
 use Rattle.state.proofs.Laws.{load-stored, loaded-stored, stored-again, kept}
-use Rattle.room.specs.Room.{records, cleared, roomAfter}
+use Rattle.room.specs.Room.{inPlace, records, cleared, roomAfter, startAfter}
 use Rattle.region.specs.Region.{enabled, prohibited}
 use Rattle.access.specs.Access.{nBit, trapped2, outcome, readOutcome, registerValue}
 use Rattle.operation.specs.Operation.{operationOf}
@@ -110,5 +110,5 @@ start = record { words = replicate stateNumbers 0; room = replicate 24 0 }
 
 pub closed-calls : (loaded (replicate stateNumbers 0) ≡ Held fresh)
     × (stepCall (calls start (numbers 0 0 8 0 0 0 ∷ [])) (numbers 5 3 0 0 0 0) .answer ≡ record { number = 0; value = 0x5008 })
-unfolding loaded judged stored unavailable sound calls stepResult lentStep stepOf accepted answerOf refusalOf unknownCode notReset outsideList wrongHalted wrongLevel roomTooShort changed occasion passed effectOf roomAfter cleared records readOutcome outcome trapped2 nBit registerValue operationOf prohibited enabled
+unfolding loaded judged stored unavailable sound calls stepResult lentStep stepOf accepted answerOf refusalOf unknownCode notReset outsideList wrongHalted wrongLevel roomTooShort changed occasion passed effectOf roomAfter startAfter cleared inPlace records readOutcome outcome trapped2 nBit registerValue operationOf prohibited enabled
 closed-calls = (refl, refl)

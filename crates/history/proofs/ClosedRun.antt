@@ -11,7 +11,7 @@ use Rattle.operation.specs.Operation.{operationOf}
 use Rattle.filter.specs.Filter.{filterBit, passesFilter}
 use Rattle.count.specs.Count.{bitLength, exponent, mantissa, encoded, smallestOf, largestOf, decoded}
 use Rattle.state.specs.Sound.{unavailable, sound}
-use Rattle.room.specs.Room.{records, numbered, pushed, cleared, roomAfter}
+use Rattle.room.specs.Room.{inPlace, records, numbered, pushed, cleared, roomAfter, startAfter}
 use Rattle.region.specs.Region.{enabled, prohibited}
 use Rattle.event.specs.Event.{controlled, valid, countUnknown, MPRED, BRBINF, recordOf, becomesRecord}
 use Rattle.freeze.specs.Freeze.{freezes, time, overflowed}
@@ -66,7 +66,7 @@ pub closed-run : (_≡_ {A = Bool × Bool × ℕ × ℕ × ℕ × ℕ} (stretch 
     (true, false, 1324, 1327, 1326, 1326))
     × (howMany restarts (run start before) after ≡ 0) × justMade (history start before) × justMade (history start session)
     × (length (notesOf start session) ≡ 2 + length (notesOf start before))
-unfolding bitLength exponent mantissa encoded smallestOf largestOf decoded unavailable sound records numbered pushed cleared roomAfter enabled prohibited filterBit passesFilter controlled valid countUnknown MPRED BRBINF recordOf becomesRecord nBit trapped2 outcome readOutcome writeOutcome iallOutcome registerWritten operationOf unknownCode notReset outsideList wrongHalted wrongLevel roomTooShort refusalOf changed occasion passed effectOf answerOf accepted stepOf stepped run notedStep notedRun stretch endSum acceptedCycles howMany
+unfolding bitLength exponent mantissa encoded smallestOf largestOf decoded unavailable sound inPlace records numbered pushed cleared roomAfter startAfter enabled prohibited filterBit passesFilter controlled valid countUnknown MPRED BRBINF recordOf becomesRecord nBit trapped2 outcome readOutcome writeOutcome iallOutcome registerWritten operationOf unknownCode notReset outsideList wrongHalted wrongLevel roomTooShort refusalOf changed occasion passed effectOf answerOf accepted stepOf stepped run notedStep notedRun stretch endSum acceptedCycles howMany
 closed-run = (refl, refl, refl, refl, refl)
 
 closed-time : T (notesOf start session) 0 2 ≡ acceptedCycles (run start before) after
@@ -80,11 +80,11 @@ abbrev longer : List Timed
 longer = before ++ (after ++ more)
 
 pub closed-stretch : stretch (shown (run start longer)) 1 2 ≡ true
-unfolding bitLength exponent mantissa encoded smallestOf largestOf decoded unavailable sound records numbered pushed cleared roomAfter enabled prohibited filterBit passesFilter controlled valid countUnknown MPRED BRBINF recordOf becomesRecord nBit trapped2 outcome readOutcome writeOutcome iallOutcome registerWritten operationOf unknownCode notReset outsideList wrongHalted wrongLevel roomTooShort refusalOf changed occasion passed effectOf answerOf accepted stepOf stepped run notedStep notedRun stretch endSum acceptedCycles howMany
+unfolding bitLength exponent mantissa encoded smallestOf largestOf decoded unavailable sound inPlace records numbered pushed cleared roomAfter startAfter enabled prohibited filterBit passesFilter controlled valid countUnknown MPRED BRBINF recordOf becomesRecord nBit trapped2 outcome readOutcome writeOutcome iallOutcome registerWritten operationOf unknownCode notReset outsideList wrongHalted wrongLevel roomTooShort refusalOf changed occasion passed effectOf answerOf accepted stepOf stepped run notedStep notedRun stretch endSum acceptedCycles howMany
 closed-stretch = refl
 
 pub closed-between : Between start longer 1 2
-unfolding bitLength exponent mantissa encoded smallestOf largestOf decoded unavailable sound records numbered pushed cleared roomAfter enabled prohibited filterBit passesFilter controlled valid countUnknown MPRED BRBINF recordOf becomesRecord nBit trapped2 outcome readOutcome writeOutcome iallOutcome registerWritten operationOf unknownCode notReset outsideList wrongHalted wrongLevel roomTooShort refusalOf changed occasion passed effectOf answerOf accepted stepOf stepped run notedStep notedRun stretch endSum acceptedCycles howMany
+unfolding bitLength exponent mantissa encoded smallestOf largestOf decoded unavailable sound inPlace records numbered pushed cleared roomAfter startAfter enabled prohibited filterBit passesFilter controlled valid countUnknown MPRED BRBINF recordOf becomesRecord nBit trapped2 outcome readOutcome writeOutcome iallOutcome registerWritten operationOf unknownCode notReset outsideList wrongHalted wrongLevel roomTooShort refusalOf changed occasion passed effectOf answerOf accepted stepOf stepped run notedStep notedRun stretch endSum acceptedCycles howMany
 closed-between =
     record {
       before = before;
@@ -129,7 +129,7 @@ occasions =
 -- CCU and CC of the records, newest first.
 pub closed-occasions : map {B = ℕ × ℕ} (λ (r : Record). (CCU r, CC r)) (shown (run start occasions))
     ≡ (0, 75) ∷ (0, 60) ∷ (1, 0) ∷ (0, 40) ∷ (1, 0) ∷ (0, 20) ∷ (1, 0) ∷ (1, 0) ∷ []
-unfolding bitLength exponent mantissa encoded smallestOf largestOf decoded unavailable sound records numbered pushed cleared roomAfter enabled prohibited filterBit passesFilter controlled valid countUnknown MPRED BRBINF recordOf becomesRecord nBit trapped2 outcome readOutcome writeOutcome iallOutcome registerWritten operationOf unknownCode notReset outsideList wrongHalted wrongLevel roomTooShort refusalOf changed occasion passed effectOf answerOf accepted stepOf stepped run notedStep notedRun stretch endSum acceptedCycles howMany
+unfolding bitLength exponent mantissa encoded smallestOf largestOf decoded unavailable sound inPlace records numbered pushed cleared roomAfter startAfter enabled prohibited filterBit passesFilter controlled valid countUnknown MPRED BRBINF recordOf becomesRecord nBit trapped2 outcome readOutcome writeOutcome iallOutcome registerWritten operationOf unknownCode notReset outsideList wrongHalted wrongLevel roomTooShort refusalOf changed occasion passed effectOf answerOf accepted stepOf stepped run notedStep notedRun stretch endSum acceptedCycles howMany
 closed-occasions = refl
 
 -- A halt 100 cycles after the record of `before`, a read and 5,000 cycles in Debug state, a resume to EL1, and a branch.
@@ -146,7 +146,7 @@ pub closed-halts : (map {B = ℕ × ℕ × ℕ × ℕ × ℕ × ℕ} (λ (r : Re
     × (_≡_ {A = Bool × ℕ × ℕ} (stretch (shown (run start halts)) 0 1, S (shown (run start halts)) 0 1, T (notesOf start halts) 0 1) (true, 60, 60))
     × (_≡_ {A = Bool × ℕ × ℕ} (stretch (shown (run start halts)) 2 1, S (shown (run start halts)) 2 1, T (notesOf start halts) 2 1) (true, 100, 100))
     × (stretch (shown (run start halts)) 0 2 ≡ false)
-unfolding bitLength exponent mantissa encoded smallestOf largestOf decoded unavailable sound records numbered pushed cleared roomAfter enabled prohibited filterBit passesFilter controlled valid countUnknown MPRED BRBINF recordOf becomesRecord nBit trapped2 outcome readOutcome writeOutcome iallOutcome registerWritten operationOf unknownCode notReset outsideList wrongHalted wrongLevel roomTooShort refusalOf changed occasion passed effectOf answerOf accepted stepOf stepped run notedStep notedRun stretch endSum acceptedCycles howMany
+unfolding bitLength exponent mantissa encoded smallestOf largestOf decoded unavailable sound inPlace records numbered pushed cleared roomAfter startAfter enabled prohibited filterBit passesFilter controlled valid countUnknown MPRED BRBINF recordOf becomesRecord nBit trapped2 outcome readOutcome writeOutcome iallOutcome registerWritten operationOf unknownCode notReset outsideList wrongHalted wrongLevel roomTooShort refusalOf changed occasion passed effectOf answerOf accepted stepOf stepped run notedStep notedRun stretch endSum acceptedCycles howMany
 closed-halts = (refl, refl, refl, refl)
 
 -- After `before` BRBCR_EL1 gets FZP and TS 1, and a counter of group 0 overflows, at 1000 with the virtual offset 1500. Then a branch and a second overflow; then
@@ -171,7 +171,7 @@ pub closed-freeze : FreezesIn (run start ready) freeze
     × (run start (ready ++ (freeze ∷ paused)) .state .brbts ≡ 0xFFFFFFFFFFFFFE0C)
     × (howMany makesRecord (run start (ready ++ (freeze ∷ paused))) resumed ≡ 2)
     × (map {B = ℕ × ℕ} (λ (r : Record). (CCU r, CC r)) (take 3 (shown (run start (ready ++ (freeze ∷ (paused ++ resumed)))))) ≡ (0, 60) ∷ (1, 0) ∷ (1, 0) ∷ [])
-unfolding bitLength exponent mantissa encoded smallestOf largestOf decoded unavailable sound records numbered pushed cleared roomAfter enabled prohibited filterBit passesFilter controlled valid countUnknown MPRED BRBINF recordOf becomesRecord nBit trapped2 outcome readOutcome writeOutcome iallOutcome registerWritten operationOf unknownCode notReset outsideList wrongHalted wrongLevel roomTooShort refusalOf changed occasion passed effectOf answerOf accepted stepOf stepped run notedStep notedRun stretch endSum acceptedCycles howMany freezes time overflowed
+unfolding bitLength exponent mantissa encoded smallestOf largestOf decoded unavailable sound inPlace records numbered pushed cleared roomAfter startAfter enabled prohibited filterBit passesFilter controlled valid countUnknown MPRED BRBINF recordOf becomesRecord nBit trapped2 outcome readOutcome writeOutcome iallOutcome registerWritten operationOf unknownCode notReset outsideList wrongHalted wrongLevel roomTooShort refusalOf changed occasion passed effectOf answerOf accepted stepOf stepped run notedStep notedRun stretch endSum acceptedCycles howMany freezes time overflowed
 closed-freeze = (
   record { group = 0; physical = 1000; virtualOffset = 1500; guestOffset = 0; is-freeze = refl; is-accepted = refl; it-freezes = refl },
   refl,

@@ -12,7 +12,7 @@ use Rattle.bits.proofs.Cases.{below-or-not}
 use Rattle.state.specs.declared.State.{State}
 use Rattle.state.specs.declared.Running.{Running}
 use Rattle.room.specs.declared.Effect.{Effect}
-use Rattle.room.specs.Room.{needed, records, numbered, roomAfter}
+use Rattle.room.specs.Room.{needed, inPlace, records, numbered, roomAfter, startAfter}
 use Rattle.room.proofs.Laws.{records-pushed, records-cleared}
 use Rattle.operation.specs.declared.Operation.the-variants.{Reset}
 use Rattle.operation.specs.Clause.{changed}
@@ -22,7 +22,7 @@ use Rattle.history.specs.History.{Timed, Machine, stepped, run, shown, N
 use Rattle.bits.proofs.Each.{each}
 use Rattle.history.proofs.Notes.{Timely, waited, began, made, Held, zero-invalid, held-cleared, held-pushed}
 use Rattle.operation.proofs.Laws.{accepts-if}
-use Rattle.history.proofs.Allowed.{Allowed, keeps, pushes, clears, starts, allowed}
+use Rattle.history.proofs.Allowed.{Allowed, keeps, pushes, clears, resets-to, allowed}
 
 -- ---- the invariant
 
@@ -31,15 +31,17 @@ pub record Good (x : Noted) : Type 0 where
   pub held : Held (shown (x .machine)) (x .notes)
 
 -- The two facts after an effect, where the clock and the running count r already hold the operation's cycles.
-after-effect : {size after now : ℕ} {notes : List Note} {e : Effect} (room : List ℕ) (r : Running) → Allowed size (length room) (r .count) e after
-    → Timely now (r .count) notes → Held (records size room) notes
-    → Timely (clockAfter e now) (runningAfter e r .count) (notesAfter e now notes) × Held (records after (roomAfter size e room)) (notesAfter e now notes)
-unfolding roomAfter
+after-effect : {size start after now : ℕ} {notes : List Note} {e : Effect} (room : List ℕ) (r : Running)
+    → Allowed size start (length room) (r .count) e after
+    → Timely now (r .count) notes → Held (records size start room) notes
+    → Timely (clockAfter e now) (runningAfter e r .count) (notesAfter e now notes)
+    × Held (records after (startAfter size start e) (roomAfter size start e room)) (notesAfter e now notes)
+unfolding roomAfter startAfter
 after-effect room r keeps t h = (t, h)
-after-effect {size} {now = now} {notes = notes} room r (pushes {new = new} one fits takes) t h =
-    (made takes t, rw (records-pushed size new room one fits) (held-pushed (records size room) notes (size - 1) now new h))
+after-effect {size} {start} {now = now} {notes = notes} room r (pushes {new = new} place fits takes) t h =
+    (made takes t, rw (records-pushed size start new room place fits) (held-pushed (records size start room) notes (size - 1) now new h))
 after-effect {size} {notes = notes} room r (clears fits) t h = (t, rw (records-cleared size room fits) (held-cleared size notes))
-after-effect room r (starts {n = n} fits) t h = (began, rw (records-cleared n room fits) (held-cleared n []))
+after-effect room r (resets-to {n = n} fits) t h = (began, rw (records-cleared n room fits) (held-cleared n []))
 
 good-step : (x : Noted) (t : Timed) → Good x → Good (notedStep x t)
 unfolding notedStep stepped stepOf accepted passed
@@ -97,7 +99,7 @@ module _ (x : Noted) (g : Good x) where
 -- ---- sequences from a reset
 
 good : {m : Machine} {list : List Timed} → FromReset m list → Good (history m list)
-unfolding notedRun notedStep stepped stepOf accepted effectOf changed roomAfter records
+unfolding notedRun notedStep stepped stepOf accepted effectOf changed roomAfter startAfter inPlace records
 good (unset {list = list}) = good-run _ list (record { timely = began; held = held-cleared 0 [] })
 good (reset {m = m} {size = size} {v1p1 = v1p1} {list = list} e) =
     let room : needed size ≤ length (m .room) = accepts-if (m .state) (Reset size v1p1) (length (m .room)) e .room-enough in

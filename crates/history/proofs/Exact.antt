@@ -12,7 +12,7 @@ use Rattle.state.specs.declared.Running.{Running}
 use Rattle.room.specs.declared.Record.{Record}
 use Rattle.room.specs.declared.Effect.{Effect}
 use Rattle.room.specs.declared.Effect.the-variants.{Keep, Push, Clear, ResetTo}
-use Rattle.room.specs.Room.{zeroRecord, records, numbered, roomAfter}
+use Rattle.room.specs.Room.{zeroRecord, records, numbered, roomAfter, startAfter}
 use Rattle.room.proofs.Laws.{records-pushed, records-cleared}
 use Rattle.operation.proofs.Laws.{accepts-if}
 use Rattle.change.specs.Change.{passed, effectOf}
@@ -20,7 +20,7 @@ use Rattle.recorder.specs.Step.{accepted, stepOf}
 use Rattle.history.specs.History.{Timed, Machine, stepped, run, shown, Note, Noted, isAccepted, effectIn, clockAfter, notesAfter, notedStep, notedRun, history, notesOf, note, resetWith, FromReset, reset, unset, isValid, stretch, S, U, T, Within, acceptedCycles}
 use Rattle.history.specs.Events.{isReset, isEmptying, makesRecord, restarts, empties, howMany, EventOf, Between}
 use Rattle.history.proofs.Notes.{zero-invalid, numbered-zeros, moved-up}
-use Rattle.history.proofs.Allowed.{Allowed, keeps, pushes, clears, starts, allowed}
+use Rattle.history.proofs.Allowed.{Allowed, keeps, pushes, clears, resets-to, allowed}
 use Rattle.history.proofs.Demand3.{plain, noted, demand-3}
 use Rattle.history.proofs.Counts.{run-parts, in-parts, one-more}
 use Rattle.history.proofs.Clock.{noted-parts, run-since}
@@ -37,13 +37,14 @@ data Outcome (m : Machine) (t : Timed) (old notes : List Note) (clock : ℕ) : T
   emptied : (size : ℕ) → shown (stepped m t) ≡ replicate size zeroRecord → Outcome m t old notes clock
 
 module _ (m : Machine) (t : Timed) (old : List Note) (now : ℕ) (is : isAccepted m t ≡ true) where
-  by-effect : {e : Effect} {running after : ℕ} → Allowed (m .state .size) (length (m .room)) running e after → effectIn m t ≡ e
-      → shown (stepped m t) ≡ records after (roomAfter (m .state .size) e (m .room)) → Outcome m t old (notesAfter e now old) (clockAfter e now)
-  unfolding roomAfter
+  by-effect : {e : Effect} {running after : ℕ} → Allowed (m .state .size) (m .state .start) (length (m .room)) running e after → effectIn m t ≡ e
+      → shown (stepped m t) ≡ records after (startAfter (m .state .size) (m .state .start) e) (roomAfter (m .state .size) (m .state .start) e (m .room)) → Outcome m t old (notesAfter e now old) (clockAfter e now)
+  unfolding roomAfter startAfter
   by-effect keeps e seen = same (rw (is, e)) (rw (is, e)) seen refl
-  by-effect (pushes {new = new} one fits takes) e seen = made is e (seen ∙ records-pushed (m .state .size) new (m .room) one fits) refl
+  by-effect (pushes {new = new} place fits takes) e seen =
+      made is e (seen ∙ records-pushed (m .state .size) (m .state .start) new (m .room) place fits) refl
   by-effect (clears fits) e seen = emptied (m .state .size) (seen ∙ records-cleared (m .state .size) (m .room) fits)
-  by-effect (starts {n = n} fits) e seen = emptied n (seen ∙ records-cleared n (m .room) fits)
+  by-effect (resets-to {n = n} fits) e seen = emptied n (seen ∙ records-cleared n (m .room) fits)
 
 outcome : (x : Noted) (t : Timed) → Outcome (x .machine) t (x .notes) (notedStep x t .notes) (notedStep x t .clock)
 unfolding notedStep stepped stepOf accepted

@@ -9,13 +9,14 @@ use mathlib.Core.List.{List, [], _∷_}
 use lib.Bits.{bitAnd, and-step, and-shr, and-mod, and-high, and-block}
 use lib.Dec.{eqb, leb, ltb}
 use lib.ListN.{length}
-use borrow.Author.Tests.{le-leb, le-ltb, ltb-false, eq-eqb, eqb-true}
+use borrow.Author.Tests.{le-leb, le-ltb, lt-ltb, ltb-false, eq-eqb, eqb-true}
 use Rattle.bits.specs.Bits.{withBit, within, oneOf}
 use Rattle.bits.proofs.WithBit.{is-set, others-stay}
 use Rattle.state.specs.declared.State.{State}
 use Rattle.state.specs.declared.Running.{Running}
-use Rattle.state.specs.Named.{sizes, atLevel, resumedAt, frozenAt, withPlatform, withRunning}
-use Rattle.state.specs.Sound.{platformMask, controlMask, filterMask, cap, unavailable, sound}
+use Rattle.state.specs.Named.{sizes, atLevel, resumedAt, frozenAt, withPlatform, withRunning, withStart}
+use Rattle.state.specs.Sound.{platformMask, controlMask, filterMask, cap, unavailable, isPlace, sound}
+use Rattle.state.proofs.Laws.{is-place}
 use Rattle.room.specs.declared.Effect.{Effect}
 use Rattle.room.specs.declared.Effect.the-variants.{Keep, Push, Clear, ResetTo}
 use Rattle.answer.specs.Answer.{isDone}
@@ -23,9 +24,10 @@ use Rattle.freeze.specs.Freeze.{freezes, overflowed}
 use Rattle.access.specs.Access.{writeOutcome, meant, registerWritten}
 use Rattle.operation.specs.declared.Operation.{Operation}
 use Rattle.operation.specs.declared.Operation.the-variants.{Reset, Branch, Exception, Return, Platform, Read, Write, Iall, Halt, Resume, Freeze, Unknown}
-use Rattle.room.specs.Room.{needed}
+use Rattle.room.specs.Room.{needed, below, startAfter}
+use Rattle.room.proofs.Laws.{below-place}
 use Rattle.operation.specs.Refusal.{unknownCode, notReset, outsideList, wrongHalted, wrongLevel, roomTooShort, firstThat, refusalOf}
-use Rattle.bits.proofs.Cases.{either, never}
+use Rattle.bits.proofs.Cases.{either, never, or-true}
 use Rattle.operation.specs.Clause.{changed}
 use Rattle.operation.proofs.Size.{Resets, is-reset, no-reset, resets, size-kept}
 use Rattle.change.specs.Change.{occasion, passed, effectOf, runningAfter}
@@ -33,6 +35,7 @@ use Rattle.recorder.specs.Step.{accepted, stepOf}
 use Rattle.history.specs.History.{Timed, Machine, isAccepted, stepped, run, FromReset, reset, unset}
 use Rattle.bits.proofs.Each.{each}
 use Rattle.operation.proofs.Laws.{Accepts, accepts-if}
+use Rattle.history.proofs.Allowed.{Allowed, keeps, pushes, clears, resets-to, allowed}
 
 -- What a mask keeps, it keeps again.
 kept-again : (n value mask : ℕ) → value ≤ n → bitAnd (bitAnd value mask) mask ≡ bitAnd value mask
@@ -44,7 +47,7 @@ kept-again (suc n) value mask h =
     in
     omega (arith, again, and-step value mask, and-step (bitAnd value mask) mask)
 
--- The lines of `sound` but for the running count, and those of the running count.
+-- The lines of `sound` but for the running count and the start, and those of the running count.
 record Set (s : State) : Type 0 where
   level : leb (s .level) 3 ≡ true
   size : oneOf (0 ∷ sizes) (s .size) ≡ true
@@ -62,11 +65,12 @@ record Counts (r : Running) : Type 0 where
 
 lines : (s : State) → sound s ≡ true → Set s × Counts (s .running)
 unfolding sound
-lines s h = search each depth 12
+lines s h = search each depth 13
 
-sound-of : (s : State) (r : Running) → Set s → Counts r → sound (withRunning r s) ≡ true
+sound-of : (s : State) (r : Running) (start : ℕ) → Set s → Counts r → isPlace (s .size) start ≡ true → sound (withStart start (withRunning r s)) ≡ true
 unfolding sound unavailable
-sound-of s r a b = rw (a .level, a .size, a .v1p1, a .p, a .brbcr1, a .brbcr2, a .brbfcr, a .isOpen, b .count, b .unknown, a .halted)
+sound-of s r start a b place =
+    rw (a .level, a .size, a .v1p1, a .p, a .brbcr1, a .brbcr2, a .brbfcr, a .isOpen, b .count, b .unknown, a .halted, place)
 
 sized : (size : ℕ) → oneOf sizes size ≡ true → oneOf (0 ∷ sizes) size ≡ true
 sized size e = rw e
@@ -145,6 +149,18 @@ counts-after (Push new) r c = record { count = refl; unknown = refl }
 counts-after Clear r c = c
 counts-after (ResetTo size) r c = record { count = refl; unknown = refl }
 
+-- The start after an effect is a place of the size after it.
+first-place : (size : ℕ) → isPlace size 0 ≡ true
+first-place size = or-true (ltb 0 size)
+
+place-after : {size start room running after : ℕ} {e : Effect} → Allowed size start room running e after → isPlace size start ≡ true
+    → isPlace after (startAfter size start e) ≡ true
+unfolding startAfter
+place-after keeps h = h
+place-after {size} {start} (pushes place fits takes) h = rw (lt-ltb (below size start) size (below-place size start place))
+place-after {size} (clears fits) h = first-place size
+place-after (resets-to {n = n} fits) h = first-place n
+
 pub sound-kept : (m : Machine) (t : Timed) → sound (m .state) ≡ true → sound (stepped m t .state) ≡ true
 unfolding stepped stepOf accepted
 sound-kept m t h = go (isAccepted m t) refl
@@ -152,10 +168,12 @@ sound-kept m t h = go (isAccepted m t) refl
     go : (b : Bool) → isAccepted m t ≡ b → sound (stepped m t .state) ≡ true
     go true e =
         let (set, counts) = lines (m .state) h in
+        let accepts = accepts-if (m .state) (t .operation) (length (m .room)) e in
+        let running = passed (m .state) (t .operation) (t .cycles) in
         rw e
-        (sound-of (changed (m .state) (t .operation)) _
-        (set-after (t .operation) (accepts-if (m .state) (t .operation) (length (m .room)) e) set)
-        (counts-after (effectOf (m .state) (t .operation) _) _ (counts-passed (m .state) (t .operation) (t .cycles) counts)))
+        (sound-of (changed (m .state) (t .operation)) _ _ (set-after (t .operation) accepts set)
+        (counts-after (effectOf (m .state) (t .operation) _) _ (counts-passed (m .state) (t .operation) (t .cycles) counts))
+        (place-after (allowed (m .state) running (length (m .room)) (t .operation) accepts) (is-place (m .state) h)))
     go false e = rw e h
 
 pub sound-run : (m : Machine) (list : List Timed) → sound (m .state) ≡ true → sound (run m list .state) ≡ true

@@ -32,7 +32,7 @@ use Rattle.change.proofs.Occasions.{Occasion, is-occasion, which-occasion}
 use Rattle.recorder.specs.Step.{accepted, stepOf}
 use Rattle.history.specs.History.{Timed, Machine, stepped, run, isAccepted, effectIn, CCU, CC, FromReset, reset, unset, resetWith, acceptedCycles}
 use Rattle.history.specs.Events.{isPush, isReset, makesRecord, restarts, howMany, Makes, EndsMaking, Occurs, now, later, IsReset, a-reset, CountUnknown, counting-off, no-record, on-occasion, SinceRecord}
-use Rattle.history.proofs.Allowed.{Allowed, keeps, pushes, clears, starts, allowed}
+use Rattle.history.proofs.Allowed.{Allowed, keeps, pushes, clears, resets-to, allowed}
 use Rattle.history.proofs.Counts.{run-parts, one-more, none-does}
 
 -- ---- one step
@@ -401,11 +401,11 @@ push-sized : (m : Machine) (t : Timed) (new : Record) → Makes m t new → 1 �
 push-sized m t new (is, e) =
     go (allowed (m .state) (ran m t) (length (m .room)) (t .operation) (accepts-if (m .state) (t .operation) (length (m .room)) is)) e
   where
-    go : {e : Effect} {after : ℕ} → Allowed (m .state .size) (length (m .room)) (ran m t .count) e after → e ≡ Push new → 1 ≤ m .state .size
+    go : {e : Effect} {after : ℕ} → Allowed (m .state .size) (m .state .start) (length (m .room)) (ran m t .count) e after → e ≡ Push new → 1 ≤ m .state .size
     go keeps h = never (cc)
-    go (pushes one fits takes) h = one
+    go (pushes place fits takes) h = omega arith
     go (clears fits) h = never (cc)
-    go (starts fits) h = never (cc)
+    go (resets-to fits) h = never (cc)
 
 -- Without a reset the size is as it was.
 size-stays : (m : Machine) (list : List Timed) → howMany makesRecord m list ≡ 0 → howMany restarts m list ≡ 0 → run m list .state .size ≡ m .state .size

@@ -49,7 +49,7 @@ run m (t ∷ list) = run (stepped m t) list
 
 -- The records as reads show them: newest first, as many as the size.
 abbrev pub shown : Machine → List Record
-shown m = records (m .state .size) (m .room)
+shown m = records (m .state .size) (m .state .start) (m .room)
 
 -- ---- the noted run: the same run, with the exact time of each record written down beside it
 
@@ -73,7 +73,7 @@ isAccepted m t = eqb (refusalOf (m .state) (t .operation) (length (m .room))) 0
 abbrev pub effectIn : Machine → Timed → Effect
 effectIn m t = effectOf (m .state) (t .operation) (passed (m .state) (t .operation) (t .cycles))
 
--- A reset (Start) starts the clock anew; BRB IALL (Clear) lets it run on. `now` is the clock with the operation's cycles.
+-- A reset sets the clock anew; BRB IALL lets it run on. `now` is the clock with the operation's cycles.
 abbrev pub clockAfter : Effect → ℕ → ℕ
 clockAfter Keep now = now
 clockAfter (Push new) now = now

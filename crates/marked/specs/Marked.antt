@@ -12,7 +12,7 @@ use Rattle.count.specs.Count.{bitLength, exponent, mantissa, encoded, smallestO
 use Rattle.number.specs.Number.{numberIn, numberAt, bytesIn, bytesOf}
 use Rattle.state.specs.Sound.{unavailable, sound}
 use Rattle.state.specs.Words.{judged}
-use Rattle.room.specs.Room.{records, numbered, pushed, cleared, roomAfter}
+use Rattle.room.specs.Room.{inPlace, records, numbered, pushed, cleared, roomAfter, startAfter}
 use Rattle.region.specs.Region.{enabled, prohibited}
 use Rattle.event.specs.Event.{controlled, valid, countUnknown, MPRED, BRBINF, recordOf, becomesRecord}
 use Rattle.access.specs.Access.{nBit, trapped2, outcome, readOutcome, writeOutcome, iallOutcome, shownRecord, shownNumber, registerValue, registerWritten}
@@ -85,5 +85,5 @@ cases =
 
 -- The fact: what the definitions make of each input is what must come out.
 pub marked : map computed cases ≡ cases
-unfolding bitLength exponent mantissa encoded smallestOf largestOf decoded numberIn numberAt bytesIn bytesOf unavailable sound judged records numbered pushed cleared roomAfter enabled prohibited filterBit passesFilter controlled valid countUnknown MPRED BRBINF recordOf becomesRecord nBit trapped2 outcome readOutcome writeOutcome iallOutcome shownRecord shownNumber registerValue registerWritten operationOf unknownCode notReset outsideList wrongHalted wrongLevel roomTooShort refusalOf changed occasion passed effectOf answerOf accepted stepOf fieldCount numbersAt operationAt bytesOfAll operationBytes recordingBytes recordedStep digits decimalCount decimal lineOf replayFrom replayOf
+unfolding bitLength exponent mantissa encoded smallestOf largestOf decoded numberIn numberAt bytesIn bytesOf unavailable sound judged inPlace records numbered pushed cleared roomAfter startAfter enabled prohibited filterBit passesFilter controlled valid countUnknown MPRED BRBINF recordOf becomesRecord nBit trapped2 outcome readOutcome writeOutcome iallOutcome shownRecord shownNumber registerValue registerWritten operationOf unknownCode notReset outsideList wrongHalted wrongLevel roomTooShort refusalOf changed occasion passed effectOf answerOf accepted stepOf fieldCount numbersAt operationAt bytesOfAll operationBytes recordingBytes recordedStep digits decimalCount decimal lineOf replayFrom replayOf
 marked = refl

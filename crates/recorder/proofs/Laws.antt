@@ -11,7 +11,7 @@ use Rattle.answer.specs.declared.Answer.the-variants.{Value}
 use Rattle.answer.specs.Answer.{isDone}
 use Rattle.state.specs.declared.State.{State}
 use Rattle.state.specs.declared.Running.{Running}
-use Rattle.state.specs.Named.{E2H, withRunning}
+use Rattle.state.specs.Named.{E2H, withRunning, withStart}
 use Rattle.room.specs.declared.Record.{Record}
 use Rattle.access.specs.Access.{readOutcome, writeOutcome, meant, shownRecord, shownNumber, registerValue, registerWritten}
 use Rattle.access.proofs.Laws.{keptOf, written-reads}
@@ -34,10 +34,11 @@ module _ (s : State) (o : Operation) (cycles : ℕ) (room : List ℕ) where
 
 -- ---- a write, and then a read
 
--- The running count is no register.
-not-counted : (r : Running) (s : State) (list : List Record) (q : ℕ) → registerValue (withRunning r s) list q ≡ registerValue s list q
+-- The running count and the start are no registers.
+not-counted : (start : ℕ) (r : Running) (s : State) (list : List Record) (q : ℕ)
+    → registerValue (withStart start (withRunning r s)) list q ≡ registerValue s list q
 unfolding registerValue shownNumber shownRecord
-not-counted r s list q = refl
+not-counted start r s list q = refl
 
 -- What is meant is a control register where one is named, and a write does not change what is meant.
 meant-control : (s : State) (r : ℕ) → 1 ≤ r → r ≤ 3 → (1 ≤ meant s r) × (meant s r ≤ 3)
@@ -50,13 +51,14 @@ meant-control s r low high = go (eqb (s .level) 2 && E2H s && eqb r 1)
 same : (n : ℕ) → eqb n n ≡ true
 same n = eq-eqb n n refl
 
-reads-back : (s : State) (count : Running) (list : List Record) (r value : ℕ) → 1 ≤ r → r ≤ 3
-    → registerValue (withRunning count (registerWritten s (meant s r) value)) list (meant (withRunning count (registerWritten s (meant s r) value)) r)
+reads-back : (s : State) (start : ℕ) (count : Running) (list : List Record) (r value : ℕ) → 1 ≤ r → r ≤ 3
+    → registerValue (withStart start (withRunning count (registerWritten s (meant s r) value))) list
+    (meant (withStart start (withRunning count (registerWritten s (meant s r) value))) r)
     ≡ keptOf (meant s r) value
 unfolding registerWritten
-reads-back s count list r value low high =
+reads-back s start count list r value low high =
     let (least, most) = meant-control s r low high in
-    not-counted count (registerWritten s (meant s r) value) list (meant s r)
+    not-counted start count (registerWritten s (meant s r) value) list (meant s r)
     ∙ written-reads s list (meant s r) (meant s r) value least most least most
     ∙ rw (same (meant s r))
 
@@ -67,4 +69,4 @@ pub write-then-read : (s : State) (r value cycles : ℕ) (room : List ℕ) → r
     → answerOf (stepOf s (Write r value) cycles room .state) (Read r) (stepOf s (Write r value) cycles room .room) ≡ Value (keptOf (meant s r) value)
 unfolding accepted answerOf changed effectOf
 write-then-read s r value cycles room h low high written read =
-    rw (read, accepted-step s (Write r value) cycles room h, written) (ap Value (reads-back s _ _ r value low high))
+    rw (read, accepted-step s (Write r value) cycles room h, written) (ap Value (reads-back s _ _ _ r value low high))

@@ -25,9 +25,10 @@ fn accept(s: State, room: &mut [u64], o: Operation, cycles: u64) -> Stepped
 {
     let all = decide(s, &room[..], o, cycles);
     let answer = all.answer;
-    let state = all.state;
+    let decided = all.state;
     let effect = all.effect;
-    apply(room, s.size, effect);
+    let start = apply(room, s.size, s.start, effect);
+    let state = decided.with_start(start);
     Stepped { answer, state }
 }
 

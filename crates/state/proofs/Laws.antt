@@ -5,14 +5,15 @@ use mathlib.Core.List.{List, _++_}
 use mathlib.Core.Bool.{true, false}
 use mathlib.Core.Logic.{_⊎_, inl, inr, ⊎-elim}
 use native.Mathlib.Omega.{arith}
-use borrow.Author.Tests.{lt-leb, le-leb}
-use lib.Dec.{leb}
+use borrow.Author.Tests.{lt-leb, le-leb, ltb-true, eqb-true}
+use lib.Dec.{leb, ltb}
 use lib.ListN.{length, drop}
 use lib.Seq.{sets-eq, set-getD}
 use Rattle.bits.proofs.Cases.{below-or-not, either, never}
+use Rattle.bits.proofs.Each.{each}
 use Rattle.state.specs.declared.State.{State}
 use Rattle.state.specs.declared.Loaded.the-variants.{Held}
-use Rattle.state.specs.Sound.{sound}
+use Rattle.state.specs.Sound.{isPlace, sound}
 use Rattle.state.specs.Parts.{stateNumbers, stateOf, wordsOf}
 use Rattle.state.specs.Words.{stored, judged, loaded}
 
@@ -56,6 +57,18 @@ pub loaded-stored : (s : State) (w : List ℕ) → stateNumbers ≤ length w →
 unfolding loaded judged stored
 loaded-stored s w enough is-sound =
     rw (le-leb stateNumbers (length w) enough, le-leb stateNumbers (length (wordsOf s ++ drop stateNumbers w)) (omega arith), is-sound)
+
+-- The start of a sound state is a place; with a size it is below it.
+pub is-place : (s : State) → sound s ≡ true → isPlace (s .size) (s .start) ≡ true
+unfolding sound
+is-place s h = search each depth 13
+
+pub start-below : (s : State) → sound s ≡ true → 1 ≤ s .size → s .start < s .size
+start-below s h one = go (either (ltb (s .start) (s .size)))
+  where
+    go : (ltb (s .start) (s .size) ≡ true) ⊎ (ltb (s .start) (s .size) ≡ false) → s .start < s .size
+    go (inl e) = ltb-true (s .start) (s .size) e
+    go (inr e) = let none : s .start ≡ 0 = eqb-true (s .start) 0 (rw e at (is-place s h)) in omega arith
 
 -- What is stored over a stored state is all that is stored.
 pub stored-again : (s t : State) (w : List ℕ) → stored t (stored s w) ≡ stored t w

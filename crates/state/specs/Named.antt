@@ -1,5 +1,5 @@
--- The bits of P and of the control registers by name, and the states that document 01 names: "Operations"; document 02, Five and
--- Six; docs/MANUAL.md, "The platform word P", "Registers", "Halts and resumes" and "Freezes".
+-- The bits of P and of the control registers by name, and the states that document 01 names: "Operations"; document 02, Five, Six
+-- and Seven; docs/MANUAL.md, "The platform word P", "Registers", "Halts and resumes", "Freezes" and "State and room".
 use Prim.Native.Nat.{ℕ}
 use mathlib.Core.Bool.{Bool, cond, _&&_, _||_}
 use mathlib.Core.List.{List, [], _∷_}
@@ -127,11 +127,15 @@ resumedAt level s = withNumber 9 0 (atLevel level s)
 abbrev pub frozenAt : ℕ → State → State
 frozenAt time s = withNumber 6 (withBit 7 (s .brbfcr)) (withNumber 10 time s)
 
+-- The state with another start.
+abbrev pub withStart : ℕ → State → State
+withStart start s = withNumber 11 start s
+
 -- The running count after a reset: 0, and the next count is unknown, since no record was made that it could run from.
 abbrev pub runningAfterReset : Running
 runningAfterReset = record { count = 0; unknown = 1 }
 
--- A reset: level 3 and not halted, its size and v1p1, 0 in P, in the three control registers and in BRBTS_EL1, and the running
--- count after a reset. (House: on a processor a cold reset leaves much of this unknown.)
+-- A reset: level 3 and not halted, its size and v1p1, 0 in P, in the three control registers, in BRBTS_EL1 and as the start, and the
+-- running count after a reset. (House: on a processor a cold reset leaves much of this unknown.)
 abbrev pub afterReset : ℕ → ℕ → State
 afterReset size v1p1 = withRunning runningAfterReset (atLevel 3 (withNumber 1 size (withNumber 2 v1p1 fresh)))

@@ -1,8 +1,8 @@
--- Which states are sound: document 01, refusal 7; docs/MANUAL.md, "State and room".
+-- Which states are sound: document 01, refusal 7; document 02, Five to Seven; docs/MANUAL.md, "State and room".
 use Prim.Native.Nat.{ℕ}
 use mathlib.Core.Bool.{Bool, _&&_, _||_, not}
 use mathlib.Core.List.{_∷_}
-use lib.Dec.{leb, eqb}
+use lib.Dec.{leb, ltb, eqb}
 use Rattle.bits.specs.Bits.{within, oneOf}
 use Rattle.state.specs.declared.State.{State}
 use Rattle.state.specs.Named.{TGE, EL2Enabled, sizes}
@@ -28,10 +28,15 @@ cap = 1048576
 unfoldable pub unavailable : State → ℕ → Bool
 unavailable s level = eqb level 2 && not (EL2Enabled s) || eqb level 1 && TGE s && EL2Enabled s
 
--- Each number of the state is in its list and its level is there; BRBTS_EL1 can be any number. (That lent numbers are too few to hold a state is refusal
--- 7 too, and is said where they are loaded.)
+-- The start is a place of the room: below the size; before the first reset, where the size is 0, it is 0. (Document 02, Seven.)
+abbrev pub isPlace : ℕ → ℕ → Bool
+isPlace size start = ltb start size || eqb start 0
+
+-- Each number of the state is in its list, its level is there and its start is a place; BRBTS_EL1 can be any number. (That lent
+-- numbers are too few to hold a state is refusal 7 too, and is said where they are loaded.)
 unfoldable pub sound : State → Bool
 sound s =
     leb (s .level) 3 && oneOf (0 ∷ sizes) (s .size) && leb (s .v1p1) 1 && within platformMask (s .p)
     && within controlMask (s .brbcr1) && within controlMask (s .brbcr2) && within filterMask (s .brbfcr)
     && not (unavailable s (s .level)) && leb (s .running .count) cap && leb (s .running .unknown) 1 && leb (s .halted) 1
+    && isPlace (s .size) (s .start)

@@ -1,7 +1,7 @@
-// The state of the model (document 01, "Operations" and refusal 7; document 02, Five and Six; docs/MANUAL.md, "State and room").
+// The state of the model (document 01, "Operations" and refusal 7; document 02, Five to Seven; docs/MANUAL.md, "State and room").
 ghost use mathlib.Core.Path.{_≡_};
 ghost use Rattle.bits.specs.Bits.{oneOf};
-ghost use Rattle.state.specs.Named.{EL2Enabled, EL3RecordingEnabled, counting, predictionShown, PAUSED, BANK, side, sizes, fresh, afterReset, atLevel, inDebugState, resumedAt, frozenAt, withPlatform, withRegisters, withRunning};
+ghost use Rattle.state.specs.Named.{EL2Enabled, EL3RecordingEnabled, counting, predictionShown, PAUSED, BANK, side, sizes, fresh, afterReset, atLevel, inDebugState, resumedAt, frozenAt, withPlatform, withRegisters, withRunning, withStart};
 ghost use Rattle.state.specs.Sound.{unavailable, sound};
 ghost use Rattle.state.specs.Words.{stored, loaded};
 use bits::pick;
@@ -38,7 +38,7 @@ pub const CAP: u64 = 1_048_576;
 pub const DEBUG_STATE: u64 = 4;
 
 // How many lent numbers hold a state.
-pub const STATE_NUMBERS: usize = 11;
+pub const STATE_NUMBERS: usize = 12;
 
 // The running count, and whether the next record's count is unknown.
 pub struct Running {
@@ -46,7 +46,7 @@ pub struct Running {
     pub unknown: u64,
 }
 
-// All that one processor's recorder holds but its records. In lent memory these eleven numbers stand in this order.
+// All that one processor's recorder holds but its records. In lent memory these twelve numbers stand in this order.
 pub struct State {
     pub level: u64,
     // 0 before the first reset.
@@ -62,6 +62,8 @@ pub struct State {
     pub halted: u64,
     // BRBTS_EL1: the time of the last freeze.
     pub brbts: u64,
+    // The place of record 0 in the room.
+    pub start: u64,
 }
 
 // The sizes that a reset can give.
@@ -124,7 +126,7 @@ impl State {
         (level == 2) & !enabled | (level == 1) & (self.p / TGE % 2 == 1) & enabled
     }
 
-    // Every number is in its list, and the level is there.
+    // Every number is in its list, the level is there, and the start is a place of the room.
     pub fn sound(self) -> bool
         ensures { λ r. ⌜ r ≡ sound self ⌝ }
     {
@@ -139,7 +141,12 @@ impl State {
             & (self.brbcr2 & CONTROL_MASK == self.brbcr2)
             & (self.brbfcr & FILTER_MASK == self.brbfcr);
         let unavailable = self.unavailable(self.level);
-        listed & !unavailable & (running.count <= CAP) & (running.unknown <= 1) & (self.halted <= 1)
+        listed
+            & !unavailable
+            & (running.count <= CAP)
+            & (running.unknown <= 1)
+            & (self.halted <= 1)
+            & ((self.start < size) | (self.start == 0))
     }
 }
 
@@ -163,6 +170,7 @@ impl State {
             running,
             halted: 0,
             brbts: 0,
+            start: 0,
         }
     }
 
@@ -236,6 +244,13 @@ impl State {
         self.running = running;
         self
     }
+
+    pub fn with_start(mut self, start: u64) -> State
+        ensures { λ r. ⌜ r ≡ withStart start self ⌝ }
+    {
+        self.start = start;
+        self
+    }
 }
 
 // What lent numbers hold.
@@ -267,6 +282,7 @@ pub fn load(words: &[u64]) -> Loaded
         running,
         halted: words[9],
         brbts: words[10],
+        start: words[11],
     };
     if s.sound() {
         Loaded::Held(s)
@@ -294,4 +310,5 @@ pub fn store(words: &mut [u64], s: State)
     words[8] = running.unknown;
     words[9] = s.halted;
     words[10] = s.brbts;
+    words[11] = s.start;
 }

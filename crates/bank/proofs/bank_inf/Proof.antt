@@ -7,7 +7,7 @@ use Rattle.bank.proofs.bank_inf.Tie as tie
 returns : tie.Need-returns
 returns c =
     let a = c .before .before .before .before .before .args in
-    rw (← two-bits (λ (r : Record). r .inf) (a .size) (a .bank) (a .m) (a .room .now)) cc
+    rw (← two-bits (λ (r : Record). r .inf) (a .size) (a .start) (a .bank) (a .m) (a .room .now)) cc
 
 pub bank-inf-spec : {M : Type 1} → statement M
 bank-inf-spec = tie.close (tie.spec (λ _ _. tt) (λ _ _. tt) (λ _ _. tt) (λ _ _. tt) returns)

@@ -14,12 +14,12 @@ returns c = rw (c .zero .ensures, le-leb 32 (c .before .before .before .args .m)
 returns-2 : tie.Need-returns-2
 returns-2 c =
     let a = c .before .before .before .before .args in
-    rw (c .zero2 .ensures, past-size (a .size) (a .first) (a .m) (a .records .now) (omega arith))
+    rw (c .zero2 .ensures, past-size (a .size) (a .start) (a .first) (a .m) (a .records .now) (omega arith))
 
 returns-3 : tie.Need-returns-3
 returns-3 c =
     let a = c .before .before .before .before .before .args in
-    rw (c .zero3 .ensures, past-size (a .size) (a .first) (a .m) (a .records .now) (omega arith))
+    rw (c .zero3 .ensures, past-size (a .size) (a .start) (a .first) (a .m) (a .records .now) (omega arith))
 
 returns-4 : tie.Need-returns-4
 unfolding viewShows

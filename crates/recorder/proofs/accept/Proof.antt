@@ -1,4 +1,4 @@
--- An accepted operation, as defined: what was decided is put in, and the room is what `apply` leaves.
+-- An accepted operation, as defined: what was decided is put in, and room and start are what `apply` leaves.
 use borrow.Author.Needs.{needs}
 use Rattle.recorder.specs.Step.{accepted}
 use Rattle.recorder.proofs.accept.Statement.{statement}
@@ -11,5 +11,8 @@ accept-spec =
     (tie.spec
     (λ _ _. tt)
     (λ _ _. tt)
+    (λ _ _. tt)
     (λ c. search needs)
-    (λ c. rw (c .before .before .apply .ensures, c .before .before .before .before .before .decide .ensures)))
+    (λ c.
+    let apply = c .before .before .before .apply .ensures in
+    rw (c .with-start .ensures, apply .0, apply .1, c .before .before .before .before .before .before .decide .ensures)))

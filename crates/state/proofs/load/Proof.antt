@@ -15,7 +15,7 @@ unfolding loaded
 returns c = rw (lt-leb _ _ (c .if1 .taken))
 
 abbrev words : tie.After-sound → List ℕ
-words c = c .before .before .before .before .before .before .before .before .before .before .before .before .before .before .args .words .now
+words c = c .before .before .before .before .before .before .before .before .before .before .before .before .before .before .before .args .words .now
 
 returns-2 : tie.Need-returns-2
 unfolding judged loaded
@@ -30,6 +30,7 @@ load-spec =
     tie.close
     (tie.spec
     returns
+    (λ c. search needs)
     (λ c. search needs)
     (λ c. search needs)
     (λ c. search needs)

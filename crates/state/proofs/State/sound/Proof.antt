@@ -11,6 +11,6 @@ sound-spec =
     (λ _ _. tt)
     (λ _ _. tt)
     (λ c.
-    let there = c .before .before .before in
+    let there = c .before .before .before .before .before in
     let listed = there .before .before .before .before .before .before .before .before .before .before .before in
     rw (there .unavailable .ensures, listed .is-size .ensures)))
