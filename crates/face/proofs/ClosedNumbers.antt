@@ -29,7 +29,7 @@ use Rattle.brb.specs.Recordings.{recordedResult, batchResult}
 
 -- The numbers of a state with a level, size 8 and a P, that is not halted and was not frozen.
 abbrev words : ℕ → ℕ → List ℕ
-words level p = level ∷ 8 ∷ 0 ∷ p ∷ 0 ∷ 0 ∷ 0 ∷ 0 ∷ 1 ∷ 0 ∷ 0 ∷ []
+words level p = level ∷ 8 ∷ 0 ∷ p ∷ 0 ∷ 0 ∷ 0 ∷ 0 ∷ 1 ∷ 0 ∷ 0 ∷ 0 ∷ []
 
 abbrev fresh : List ℕ
 fresh = replicate stateNumbers 0

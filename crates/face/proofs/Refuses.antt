@@ -292,26 +292,27 @@ write-refused x at out = go (ltb lastCode (x .code)) (leb (at + length (operatio
 
 -- ---- the bank view, decoding and adding up, which only read what is lent
 
-pub bank-answers : (register : Record → ℕ) (size bank m : ℕ) (room : List ℕ)
-    → First (bankLines size bank m room) (returned (bankShows register size bank m room) .number)
+pub bank-answers : (register : Record → ℕ) (size start bank m : ℕ) (room : List ℕ)
+    → First (bankLines size start bank m room) (returned (bankShows register size start bank m room) .number)
 unfolding bankShows bankRefusal
-bank-answers register size bank m room = go (not (oneOf sizes size)) (ltb 3 bank) (ltb 31 m) (ltb (length room) (needed size))
+bank-answers register size start bank m room = go (not (oneOf sizes size)) (ltb 3 bank) (ltb 31 m) (leb size start) (ltb (length room) (needed size))
   where
-    go : (a b c d : Bool) → First ((4, a) ∷ (4, b) ∷ (4, c) ∷ (6, d) ∷ [])
-        (returned (cond (eqb (cond (a || b || c) 4 (cond d 6 0)) 0) (Answer.Value (register (viewShows size (32 * bank) m room))) (Answer.Refused (cond (a || b || c) 4 (cond d 6 0)))) .number)
-    go true b c d = here
-    go false true c d = later here
-    go false false true d = later (later here)
-    go false false false true = later (later (later here))
-    go false false false false = later (later (later (later none)))
+    go : (a b c d e : Bool) → First ((4, a) ∷ (4, b) ∷ (4, c) ∷ (7, d) ∷ (6, e) ∷ [])
+        (returned (cond (eqb (cond (a || b || c) 4 (cond d 7 (cond e 6 0))) 0) (Answer.Value (register (viewShows size start (32 * bank) m room))) (Answer.Refused (cond (a || b || c) 4 (cond d 7 (cond e 6 0))))) .number)
+    go true b c d e = here
+    go false true c d e = later here
+    go false false true d e = later (later here)
+    go false false false true e = later (later (later here))
+    go false false false false true = later (later (later (later here)))
+    go false false false false false = later (later (later (later (later none))))
 
-pub bank-refused : (register : Record → ℕ) (size bank m : ℕ) (room : List ℕ) → returned (bankShows register size bank m room) .number ≢ 0
-    → returned (bankShows register size bank m room) .value ≡ 0
+pub bank-refused : (register : Record → ℕ) (size start bank m : ℕ) (room : List ℕ) → returned (bankShows register size start bank m room) .number ≢ 0
+    → returned (bankShows register size start bank m room) .value ≡ 0
 unfolding bankShows
-bank-refused register size bank m room = go (eqb (bankRefusal size bank m room) 0)
+bank-refused register size start bank m room = go (eqb (bankRefusal size start bank m room) 0)
   where
-    go : (t : Bool) → returned (cond t (Answer.Value (register (viewShows size (32 * bank) m room))) (Answer.Refused (bankRefusal size bank m room))) .number ≢ 0
-        → returned (cond t (Answer.Value (register (viewShows size (32 * bank) m room))) (Answer.Refused (bankRefusal size bank m room))) .value ≡ 0
+    go : (t : Bool) → returned (cond t (Answer.Value (register (viewShows size start (32 * bank) m room))) (Answer.Refused (bankRefusal size start bank m room))) .number ≢ 0
+        → returned (cond t (Answer.Value (register (viewShows size start (32 * bank) m room))) (Answer.Refused (bankRefusal size start bank m room))) .value ≡ 0
     go true h = absurd (h refl)
     go false h = refl
 

@@ -58,7 +58,7 @@ module _ (words : List ℕ) (enough : stateNumbers ≤ length words) where
       → recordsIn (calls (holding words m) list) ≡ shown (run m (map timed list))
   records-run m list h =
       let end = run m (map timed list) in
-      ap recordsIn (calls-run m list h) ∙ ap (λ (s : State). records (s .size) (end .room)) (load-stored (end .state) words enough)
+      ap recordsIn (calls-run m list h) ∙ ap (λ (s : State). records (s .size) (s .start) (end .room)) (load-stored (end .state) words enough)
 
   -- A recorded call that finds an operation is the call with that operation's numbers, and answers where reading goes on.
   pub recorded-call : (m : Machine) (bytes : List ℕ) (at : ℕ) (n : Numbers) (next : ℕ) → sound (m .state) ≡ true

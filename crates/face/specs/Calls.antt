@@ -108,4 +108,4 @@ withNext next r = together (record { number = r .answer .number; value = r .answ
 
 -- The records that lent memory holds, newest first, as many as the size that it holds.
 abbrev pub recordsIn : Lent → List Record
-recordsIn x = records (stateOf (x .words) .size) (x .room)
+recordsIn x = records (stateOf (x .words) .size) (stateOf (x .words) .start) (x .room)

@@ -3,7 +3,7 @@
 use Prim.Native.Nat.{ℕ, suc, _+_, _*_, _/_}
 use mathlib.Core.Bool.{Bool, true, false, _&&_, not}
 use mathlib.Core.List.{List, [], _∷_, _++_}
-use lib.Dec.{eqb, ltb}
+use lib.Dec.{eqb, ltb, leb}
 use lib.ListN.{length, drop}
 use Rattle.bits.specs.Bits.{oneOf}
 use Rattle.count.specs.Count.{exceeded}
@@ -105,10 +105,11 @@ batchLines words bytes answers =
 
 -- ---- lines of the bank view, of decoding and of adding up
 
--- `brb_bank_inf`, `brb_bank_source`, `brb_bank_target`: 4 for a size, a BANK or an m outside its list; 6 for too short a room.
-abbrev pub bankLines : ℕ → ℕ → ℕ → List ℕ → Lines
-bankLines size bank m room =
-    (4, not (oneOf sizes size)) ∷ (4, ltb 3 bank) ∷ (4, ltb 31 m) ∷ (6, ltb (length room) (needed size)) ∷ []
+-- `brb_bank_inf`, `brb_bank_source`, `brb_bank_target`: 4 for a size, a BANK or an m outside its list; 7 for a start that is not below
+-- the size; 6 for too short a room.
+abbrev pub bankLines : ℕ → ℕ → ℕ → ℕ → List ℕ → Lines
+bankLines size start bank m room =
+    (4, not (oneOf sizes size)) ∷ (4, ltb 3 bank) ∷ (4, ltb 31 m) ∷ (7, leb size start) ∷ (6, ltb (length room) (needed size)) ∷ []
 
 -- `brb_count_decode`: 4 for an E above 12, but for all ones.
 abbrev pub decodeLines : ℕ → Lines
