@@ -11,7 +11,7 @@
 #include "check.h"
 
 /* Constants that fit an int can be asked by the preprocessor. */
-#if BRB_VERSION_MAJOR != 3 || BRB_STATE_NUMBERS != BRB_STATE_BRBTS_EL1 + 1 || BRB_LARGEST_ROOM != 192
+#if BRB_VERSION_MAJOR != 4 || BRB_STATE_NUMBERS != BRB_STATE_START + 1 || BRB_LARGEST_ROOM != 192
 #error "brb.h: a constant is not what it was"
 #endif
 #if BRB_STATE_HALTED != BRB_STATE_UNKNOWN + 1 || BRB_CODE_HALT != BRB_CODE_IALL + 1 || BRB_CODE_RESUME != 9
@@ -22,6 +22,9 @@
 #endif
 #if BRB_STATE_BRBTS_EL1 != BRB_STATE_HALTED + 1 || BRB_CODE_FREEZE != BRB_CODE_RESUME + 1 || BRB_REGISTER_BRBTS_EL1 != 4
 #error "brb.h: a constant of freezes is not what it was"
+#endif
+#if BRB_STATE_START != BRB_STATE_BRBTS_EL1 + 1 || BRB_STATE_START != 11 || BRB_ROOM_NUMBERS(8) != 24
+#error "brb.h: a constant of the round buffer is not what it was"
 #endif
 #if BRB_TS_NONE != 0 || BRB_TS_VIRTUAL != 1 || BRB_TS_GUEST != 2 || BRB_TS_PHYSICAL != 3
 #error "brb.h: a TS is not what it was"
@@ -79,6 +82,22 @@ static void batches(void) {
     check(BRB_BATCH_NUMBERS(BRB_OPERATION_BYTES) > BRB_ANSWER_NUMBERS, "numbers for the longest operation's answer");
 }
 
+/* A room whose numbers are all different, and the start of each of its eight places. */
+static void banks(void) {
+    uint64_t room[BRB_ROOM_NUMBERS(8)], start;
+    size_t i;
+    for (i = 0; i < BRB_ROOM_NUMBERS(8); i++) room[i] = 100 + i;
+    for (start = 0; start < 8; start++) {
+        struct brb_answer inf = brb_bank_inf(room, BRB_ROOM_NUMBERS(8), 8, start, 0, 0);
+        struct brb_answer source = brb_bank_source(room, BRB_ROOM_NUMBERS(8), 8, start, 0, 0);
+        struct brb_answer target = brb_bank_target(room, BRB_ROOM_NUMBERS(8), 8, start, 0, 7);
+        check(inf.number == BRB_DONE && inf.value == 100 + 3 * start, "BRBINF of record 0 stands at the start");
+        check(source.number == BRB_DONE && source.value == 101 + 3 * start, "and BRBSRC behind it");
+        check(target.number == BRB_DONE && target.value == 102 + 3 * ((start + 7) % 8), "record 7 stands below it");
+    }
+    check(brb_bank_inf(room, BRB_ROOM_NUMBERS(8), 8, 8, 0, 0).number == BRB_REFUSED_STATE, "8 is no start of eight places");
+}
+
 static void counts(void) {
     struct brb_spread spread;
     uint64_t cc[3];
@@ -105,6 +124,7 @@ int main(void) {
     fields();
     answers();
     batches();
+    banks();
     counts();
     printf("header: %u checks passed, %u failed\n", passed, failed);
     return failed != 0;

@@ -1,5 +1,5 @@
-/* A C host of the library: session S1, halts and resumes, freezes, each refusal, rooms and states at their bounds, counts and
- * their sums, and batches, through include/brb.h.
+/* A C host of the library: session S1, halts and resumes, freezes, where records stand, each refusal, rooms and states at their
+ * bounds, counts and their sums, and batches, through include/brb.h.
  *
  * Every lent area is allocated with exactly the numbers that are lent, so that valgrind sees a step past its end. */
 #include "brb.h"
@@ -74,6 +74,12 @@ static void refuses(struct lent *l, const uint64_t o[6], uint64_t number, const 
 
 #define OP(...) ((const uint64_t[6]){__VA_ARGS__})
 
+/* The three numbers of a record: it stands as many places above the state's start as its number says, going round. */
+static const uint64_t *record(const struct lent *l, uint64_t number) {
+    uint64_t place = l->state[BRB_STATE_START] + number, size = l->state[BRB_STATE_SIZE];
+    return l->room + 3 * (place < size ? place : place - size);
+}
+
 static void session_s1(void) {
     struct lent l = lend(BRB_STATE_NUMBERS, 0, BRB_ROOM_NUMBERS(64));
     answers(&l, OP(0, 0, 8, 0), 0, 0, "S1: reset");
@@ -94,6 +100,8 @@ static void session_s1(void) {
     check(l.state[7] == 9, "brb_read: its cycles count");
     answer = brb_read(l.state, l.state_numbers, l.room, l.room_numbers, 0, 5);
     check(answer.number == 4 && answer.value == 0, "brb_read: register 5 is refused");
+    check(l.state[BRB_STATE_START] == 6, "S1: two records below the end of eight places");
+    check(record(&l, 0) == l.room + 18 && record(&l, 1)[1] == 4100, "S1: where they stand");
     check(l.room[24] == 7, "S1: the room past eight records is not written");
     take_back(&l);
 }
@@ -117,8 +125,8 @@ static void halt_and_resume(void) {
     answers(&l, OP(BRB_CODE_HALT, 100, 4100), 0, 0, "a halt");
     check(l.state[BRB_STATE_HALTED] == 1 && l.state[BRB_STATE_LEVEL] == 1, "halted at EL1");
     check(l.state[BRB_STATE_COUNT] == 0 && l.state[BRB_STATE_UNKNOWN] == 0, "the halt's record took the count");
-    check(l.room[0] == UINT64_C(0x0000006400002102), "BRBINF of a halt: half-source, type 0x21, 100 cycles, level 0");
-    check(l.room[1] == 4100 && l.room[2] == 0, "a halt has a source and no target");
+    check(record(&l, 0)[0] == UINT64_C(0x0000006400002102), "BRBINF of a halt: half-source, type 0x21, 100 cycles, level 0");
+    check(record(&l, 0)[1] == 4100 && record(&l, 0)[2] == 0, "a halt has a source and no target");
 
     refuses(&l, OP(BRB_CODE_BRANCH, 5, 0, 0, 8, 12), 8, "8: a branch while halted");
     refuses(&l, OP(BRB_CODE_EXCEPTION, 5, BRB_TYPE_IRQ, 1, 8, 12), 8, "8: an exception while halted");
@@ -133,10 +141,10 @@ static void halt_and_resume(void) {
 
     answers(&l, OP(BRB_CODE_RESUME, 5000, 4104, 1), 0, 0, "a resume");
     check(l.state[BRB_STATE_HALTED] == 0 && l.state[BRB_STATE_LEVEL] == 1, "not halted, at EL1");
-    check(l.room[0] == UINT64_C(0x0000400000003941), "BRBINF of a resume: half-target, type 0x39, unknown, level 1");
-    check(l.room[1] == 0 && l.room[2] == 4104, "a resume has a target and no source");
+    check(record(&l, 0)[0] == UINT64_C(0x0000400000003941), "BRBINF of a resume: half-target, type 0x39, unknown, level 1");
+    check(record(&l, 0)[1] == 0 && record(&l, 0)[2] == 4104, "a resume has a target and no source");
     answers(&l, OP(BRB_CODE_BRANCH, 7, 0, 0, 4104, 4096), 0, 0, "a branch after the resume");
-    check(l.room[0] == UINT64_C(0x0000000700000043), "whose count is known");
+    check(record(&l, 0)[0] == UINT64_C(0x0000000700000043), "whose count is known");
     take_back(&l);
 }
 
@@ -145,9 +153,11 @@ static void halts(void) {
     struct lent l = recorded_at_el1();
     answers(&l, OP(BRB_CODE_HALT, 0, 8), 0, 0, "a halt at EL1");
     answers(&l, OP(BRB_CODE_RESUME, 0, 12, 3), 0, 0, "a resume that goes up to EL3");
-    check(l.state[BRB_STATE_LEVEL] == 3 && BRB_INF_TYPE_OF(l.room[0]) == BRB_TYPE_DEBUG_HALT, "EL3 is prohibited: no record");
+    check(l.state[BRB_STATE_LEVEL] == 3, "at EL3");
+    check(BRB_INF_TYPE_OF(record(&l, 0)[0]) == BRB_TYPE_DEBUG_HALT, "EL3 is prohibited: no record");
     answers(&l, OP(BRB_CODE_HALT, 0, 8), 0, 0, "a halt at EL3");
-    check(BRB_INF_TYPE_OF(l.room[0]) == BRB_TYPE_DEBUG_HALT && l.room[6] == 0, "EL3 is prohibited: no record again");
+    check(BRB_INF_TYPE_OF(record(&l, 0)[0]) == BRB_TYPE_DEBUG_HALT, "EL3 is prohibited: no record again");
+    check(record(&l, 1)[1] == 4096 && record(&l, 2)[0] == 0, "behind it the branch, and nothing else");
     answers(&l, OP(BRB_CODE_PLATFORM, 0, 0), 0, 0, "a platform word while halted at EL3");
     refuses(&l, OP(BRB_CODE_RESUME, 5, 12, 2), 5, "5: a resume to level 2 with EL2 not enabled");
     answers(&l, OP(BRB_CODE_PLATFORM, 0, BRB_P_NS | BRB_P_TGE), 0, 0, "TGE, with EL2 enabled");
@@ -178,12 +188,12 @@ static void freeze_and_go_on(void) {
     answers(&l, OP(BRB_CODE_WRITE, 0, BRB_REGISTER_BRBTS_EL1, 5), 100, 0, "a write of BRBTS_EL1 is undefined");
     answers(&l, OP(BRB_CODE_FREEZE, 0, 0, 9, 0, 0), 0, 0, "a second overflow");
     answers(&l, OP(BRB_CODE_BRANCH, 0, 0, 0, 8, 12), 0, 0, "a branch after the freeze");
-    check(l.room[1] == 4096 && l.room[3] == 0, "is not recorded");
+    check(record(&l, 0)[1] == 4096 && record(&l, 1)[0] == 0, "is not recorded");
     answers(&l, OP(BRB_CODE_IALL, 0), 0, 0, "BRB IALL");
     check(l.state[BRB_STATE_BRBTS_EL1] == WRAPPED, "the time stays");
     answers(&l, OP(BRB_CODE_WRITE, 0, BRB_REGISTER_BRBFCR_EL1, BRB_FILTER_ENI), 0, 0, "a write that clears PAUSED");
     answers(&l, OP(BRB_CODE_BRANCH, 3, 0, 0, 8, 12), 0, 0, "a branch after it");
-    check(l.room[0] == UINT64_C(0x0000400000000043) && l.room[1] == 8, "whose count is unknown");
+    check(record(&l, 0)[0] == UINT64_C(0x0000400000000043) && record(&l, 0)[1] == 8, "whose count is unknown");
     answers(&l, OP(BRB_CODE_RESET, 0, 8), 0, 0, "a reset");
     check(l.state[BRB_STATE_BRBTS_EL1] == 0, "after which BRBTS_EL1 is 0");
     take_back(&l);
@@ -272,8 +282,8 @@ static void rooms(void) {
     take_back(&empty);
 }
 
-/* For each number of a state one that is not sound. BRBTS_EL1, the last, may be any number. */
-static const uint64_t unsound[BRB_STATE_BRBTS_EL1] = {4, 9, 2, 0x80, 4, 4, 1, 1048577, 2, 2};
+/* For each number of a fresh state one that is not sound. BRBTS_EL1 may be any number; before a reset the start is 0. */
+static const uint64_t unsound[BRB_STATE_NUMBERS] = {4, 9, 2, 0x80, 4, 4, 1, 1048577, 2, 2, UINT64_MAX, 1};
 
 static void states(void) {
     struct lent fresh = lend(BRB_STATE_NUMBERS, 0, BRB_ROOM_NUMBERS(8));
@@ -293,12 +303,144 @@ static void states(void) {
         take_back(&cut);
     }
 
-    for (size_t place = 0; place < BRB_STATE_BRBTS_EL1; place++) {
+    for (size_t place = 0; place < BRB_STATE_NUMBERS; place++) {
+        if (place == BRB_STATE_BRBTS_EL1) continue;
         struct lent l = lend(BRB_STATE_NUMBERS, 0, BRB_ROOM_NUMBERS(8));
         l.state[place] = unsound[place];
         refuses(&l, OP(0, 1, 8), 7, "a state with one number that is not sound");
         take_back(&l);
     }
+}
+
+/* The operations that lead to EL1, with this P, recording and counting on, after a reset to this size; and a room whose numbers
+ * are then all different, with some past the records. */
+static struct lent started(uint64_t size, uint64_t platform) {
+    const uint64_t operations[][6] = {{0, 0, size},                {4, 0, platform},  {6, 0, 1, BRB_CONTROL_MASK},
+                                      {6, 0, 2, BRB_CONTROL_MASK}, {6, 0, 3, 65536}, {3, 0, 1, 0, 128, 4096}};
+    struct lent l = lend(BRB_STATE_NUMBERS, 0, BRB_ROOM_NUMBERS(size) + 2);
+    for (size_t i = 0; i < sizeof operations / sizeof operations[0]; i++)
+        answers(&l, operations[i], 0, 0, "a session at EL1 of this size");
+    check(l.state[BRB_STATE_START] == 0, "a reset puts the start to 0");
+    for (size_t i = 0; i < l.room_numbers; i++) l.room[i] = 1000 + i;
+    return l;
+}
+
+/* Each of the three numbers of a record by a read and by the bank view. */
+static void shows(struct lent *l, uint64_t number, const uint64_t expected[3], const char *what) {
+    uint64_t size = l->state[BRB_STATE_SIZE], start = l->state[BRB_STATE_START], bank = number / 32, m = number % 32;
+    struct brb_answer (*const views[3])(const uint64_t *, size_t, uint64_t, uint64_t, uint64_t, uint64_t) = {
+        brb_bank_inf, brb_bank_source, brb_bank_target};
+    for (uint64_t part = 0; part < 3; part++) {
+        struct brb_answer seen = views[part](l->room, l->room_numbers, size, start, bank, m);
+        check(seen.number == BRB_DONE && seen.value == expected[part], what);
+        l->state[BRB_STATE_BRBFCR_EL1] = BRB_FILTER_ENI | BRB_FILTER_BANK_IS(bank);
+        answers(l, OP(BRB_CODE_READ, 0, 32 + 32 * part + m), 0, expected[part], what);
+    }
+}
+
+/* Branches, more than there are places: each is written at the place below the start, from place 0 at the last one, and nothing
+ * else of the room is. Then every record by its number. */
+static void goes_round(uint64_t size) {
+    struct lent l = started(size, 49);
+    uint64_t *room = copied(l.room, l.room_numbers), events = 2 * size + 3;
+    for (uint64_t event = 1; event <= events; event++) {
+        uint64_t place = (events * size - event) % size;
+        answers(&l, OP(BRB_CODE_BRANCH, event, 0, 0, 5000 + event, 9000 + event), 0, 0, "a branch that is recorded");
+        check(l.state[BRB_STATE_START] == place, "the place below the start is the new start");
+        check(BRB_INF_VALID_OF(l.room[3 * place]) == BRB_VALID_FULL, "the new record stands there");
+        room[3 * place] = l.room[3 * place];
+        room[3 * place + 1] = 5000 + event;
+        room[3 * place + 2] = 9000 + event;
+        check(same(l.room, room, l.room_numbers), "nothing else is written");
+    }
+    for (uint64_t number = 0; number < size; number++) {
+        check(record(&l, number)[1] == 5000 + events - number, "a record by its number");
+        shows(&l, number, record(&l, number), "a record, read and seen");
+    }
+    static const uint64_t nothing[3];
+    if (size < 64) shows(&l, size, nothing, "what is not below the size");
+    free(room);
+    take_back(&l);
+}
+
+/* What becomes of a start that is not 0: P, the operations from EL1 on, the answer of the last, and whether it stays. */
+static void starts(uint64_t size) {
+    static const struct {
+        uint64_t platform, level, operation[6], number, stays;
+    } cases[] = {
+        {49, 1, {BRB_CODE_IALL, 5}, BRB_DONE, 0},
+        {0x131, 1, {BRB_CODE_IALL, 5}, BRB_TRAP2, 1},
+        {33, 1, {BRB_CODE_IALL, 5}, BRB_TRAP3, 1},
+        {49, 0, {BRB_CODE_IALL, 5}, BRB_UNDEFINED, 1},
+        {49, 1, {BRB_CODE_RESET, 5, 8}, BRB_DONE, 0},
+        {49, 1, {BRB_CODE_WRITE, 5, 3, 128}, BRB_DONE, 1},
+        {49, 3, {BRB_CODE_BRANCH, 5, 0, 0, 8, 12}, BRB_DONE, 1},
+    };
+    for (size_t i = 0; i < sizeof cases / sizeof cases[0]; i++) {
+        struct lent l = started(size, cases[i].platform);
+        uint64_t start = l.state[BRB_STATE_START] = size / 2 + 1, *room = copied(l.room, l.room_numbers);
+        l.state[BRB_STATE_LEVEL] = cases[i].level;
+        answers(&l, cases[i].operation, cases[i].number, 0, "with a start that is not 0");
+        size_t zeros = cases[i].stays ? 0 : BRB_ROOM_NUMBERS(l.state[BRB_STATE_SIZE]);
+        memset(room, 0, zeros * sizeof *room);
+        check(l.state[BRB_STATE_START] == (cases[i].stays ? start : 0), "what becomes of the start");
+        check(same(l.room, room, l.room_numbers), "what becomes of the room");
+        free(room);
+        take_back(&l);
+    }
+}
+
+/* A start that the size has not, or that is not 0 before a reset, is 7 to every operation; and so are eleven numbers. */
+static void unsound_starts(uint64_t size) {
+    struct lent l = size ? started(size, 49) : lend(BRB_STATE_NUMBERS, 0, BRB_ROOM_NUMBERS(8));
+    const uint64_t wrong[] = {size ? size : 1, size + 1, 64, 65, UINT64_C(1) << 32, UINT64_MAX / 3 + 1, UINT64_MAX};
+    for (size_t i = 0; i < sizeof wrong / sizeof wrong[0]; i++) {
+        l.state[BRB_STATE_START] = wrong[i];
+        for (uint64_t code = 0; code <= BRB_CODE_FREEZE + 1; code++)
+            refuses(&l, OP(code, 5, 8), 7, "7: a start that is not below the size");
+    }
+    for (uint64_t start = size; start < 64; start++) {
+        l.state[BRB_STATE_START] = start ? start : 1;
+        refuses(&l, OP(0, 5, 8), 7, "7: a start from the size to 63");
+    }
+    l.state[BRB_STATE_START] = 0;
+    l.state_numbers = BRB_STATE_START;
+    refuses(&l, OP(0, 5, 8), 7, "7: eleven numbers");
+    l.state_numbers = BRB_STATE_NUMBERS;
+    answers(&l, OP(0, 5, 8), 0, 0, "twelve of them are a state");
+    take_back(&l);
+}
+
+/* In the bank view 4 comes first, then 7, then 6. */
+static void bank_refusals(uint64_t size) {
+    static const uint64_t above[] = {0, 1, 7, UINT64_C(1) << 32, UINT64_MAX - 64};
+    size_t enough = BRB_ROOM_NUMBERS(size);
+    uint64_t *room = numbers(enough, 7);
+    for (uint64_t start = 0; start < size; start++) {
+        check(brb_bank_inf(room, enough, size, start, 0, 0).value == 7, "a start below the size");
+        check(brb_bank_inf(room, enough - 1, size, start, 0, 0).number == 6, "6: one number too few");
+        check(brb_bank_source(room, enough - 1, size, start, 3, 31).number == 6, "6: past the size too");
+    }
+    for (size_t i = 0; i < sizeof above / sizeof above[0]; i++) {
+        uint64_t start = size + above[i];
+        check(brb_bank_inf(room, enough, size, start, 0, 0).number == 7, "7: a start that is not below the size");
+        check(brb_bank_source(room, enough - 1, size, start, 0, 0).number == 7, "7 before 6");
+        check(brb_bank_target(room, 0, size, start, 3, 31).number == 7, "7: past the size too");
+        check(brb_bank_inf(room, enough, size + 1, start, 0, 0).number == 4, "4 before 7: the size");
+        check(brb_bank_source(room, enough, size, start, 4, 0).number == 4, "4 before 7: the bank");
+        check(brb_bank_target(room, 0, size, start, 0, 32).number == 4, "4 before 7 and 6: m");
+    }
+    free(room);
+}
+
+static void round_buffer(void) {
+    for (uint64_t size = 8; size <= 64; size *= 2) {
+        goes_round(size);
+        starts(size);
+        unsound_starts(size);
+        bank_refusals(size);
+    }
+    unsound_starts(0);
 }
 
 static int is(struct brb_spread spread, uint64_t number, uint64_t low, uint64_t high, uint64_t bounded) {
@@ -350,9 +492,9 @@ static void sum_of_records(void) {
                                              {1, 7, 0, 0, 8, 12}, {1, 300, 0, 0, 8, 12}, {1, 28988, 0, 0, 8, 12}};
     for (size_t i = 0; i < sizeof operations / sizeof operations[0]; i++)
         answers(&l, operations[i], 0, 0, "three branches that are recorded");
-    check(BRB_INF_CCU_OF(l.room[0]) == 0 && BRB_INF_CCU_OF(l.room[3]) == 0, "two known counts");
-    check(BRB_INF_VALID_OF(l.room[6]) == BRB_VALID_FULL, "the record before them");
-    uint64_t cc[] = {BRB_INF_CC_OF(l.room[0]), BRB_INF_CC_OF(l.room[3])};
+    check(BRB_INF_CCU_OF(record(&l, 0)[0]) == 0 && BRB_INF_CCU_OF(record(&l, 1)[0]) == 0, "two known counts");
+    check(BRB_INF_VALID_OF(record(&l, 2)[0]) == BRB_VALID_FULL, "the record before them");
+    uint64_t cc[] = {BRB_INF_CC_OF(record(&l, 0)[0]), BRB_INF_CC_OF(record(&l, 1)[0])};
     struct brb_spread spread = sum(cc, 2);
     check(is(spread, 0, 29228, 29291, 1), "the sum of the two counts");
     check(spread.low <= 29288 && 29288 <= spread.high, "the cycles lie between its ends");
@@ -463,7 +605,8 @@ static void batch_of_s1(void) {
 }
 
 static void batch_states(void) {
-    for (size_t place = 0; place < BRB_STATE_BRBTS_EL1; place++) {
+    for (size_t place = 0; place < BRB_STATE_NUMBERS; place++) {
+        if (place == BRB_STATE_BRBTS_EL1) continue;
         struct lent l = lend(BRB_STATE_NUMBERS, 0, BRB_ROOM_NUMBERS(8));
         l.state[place] = unsound[place];
         batch_refuses(&l, s1, sizeof s1, 24, 7, "7: a batch on a state that is not sound");
@@ -510,6 +653,7 @@ int main(void) {
     refusals();
     rooms();
     states();
+    round_buffer();
     counts();
     sums();
     sum_of_records();

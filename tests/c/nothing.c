@@ -36,13 +36,13 @@ static void steps(void) {
 }
 
 static void banks(void) {
-    for (uint64_t bank = 0; bank <= 4; bank++) {
-        for (uint64_t m = 0; m <= 32; m++) {
-            uint64_t number = bank > 3 || m > 31 ? 4 : 6;
-            check(is(brb_bank_inf(NULL, 0, 64, bank, m), number), "brb_bank_inf: no room");
-            check(is(brb_bank_source(NULL, 0, 64, bank, m), number), "brb_bank_source: no room");
-            check(is(brb_bank_target(NULL, 0, 64, bank, m), number), "brb_bank_target: no room");
-        }
+    static const uint64_t starts[] = {0, 1, 63, 64, UINT64_MAX};
+    for (uint64_t i = 0; i < 5 * 5 * 33; i++) {
+        uint64_t start = starts[i % 5], bank = i / 5 % 5, m = i / 25;
+        uint64_t number = bank > 3 || m > 31 ? 4 : start > 63 ? 7 : 6;
+        check(is(brb_bank_inf(NULL, 0, 64, start, bank, m), number), "brb_bank_inf: no room");
+        check(is(brb_bank_source(NULL, 0, 64, start, bank, m), number), "brb_bank_source: no room");
+        check(is(brb_bank_target(NULL, 0, 64, start, bank, m), number), "brb_bank_target: no room");
     }
 }
 

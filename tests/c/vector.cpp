@@ -20,9 +20,10 @@ static void empty() {
     check(brb_read(n, none.size(), n, none.size(), 0, 0).number == 7, "brb_read");
     const brb_spread sum = brb_count_sum(n, none.size());
     check(sum.number == BRB_DONE && sum.low == 0 && sum.high == 0 && sum.bounded == 1, "brb_count_sum");
-    check(brb_bank_inf(n, none.size(), 8, 0, 0).number == 6, "brb_bank_inf");
-    check(brb_bank_source(n, none.size(), 8, 0, 0).number == 6, "brb_bank_source");
-    check(brb_bank_target(n, none.size(), 8, 0, 0).number == 6, "brb_bank_target");
+    check(brb_bank_inf(n, none.size(), 8, 7, 0, 0).number == 6, "brb_bank_inf");
+    check(brb_bank_source(n, none.size(), 8, 7, 0, 0).number == 6, "brb_bank_source");
+    check(brb_bank_target(n, none.size(), 8, 7, 0, 0).number == 6, "brb_bank_target");
+    check(brb_bank_inf(n, none.size(), 8, 8, 0, 0).number == BRB_REFUSED_STATE, "brb_bank_inf: 7 before 6");
     check(brb_recording_read(b, no_bytes.size(), 0, n, none.size()).number == 6, "brb_recording_read");
     check(brb_recording_write(b, no_bytes.size(), 0, 7, 0, 0, 0, 0, 0).number == 6, "brb_recording_write");
     check(brb_step_recorded(n, none.size(), n, none.size(), b, no_bytes.size(), 0).number == 7, "brb_step_recorded");
@@ -49,6 +50,9 @@ static void in_use() {
     check(answer.number == BRB_DONE && state[BRB_STATE_LEVEL] == BRB_LEVEL_EL3, "a reset");
     answer = brb_read(state.data(), state.size(), room.data(), room.size(), 0, BRB_REGISTER_BRBIDR0_EL1);
     check(answer.number == BRB_DONE && answer.value == BRB_BRBIDR0_EL1(16), "BRBIDR0_EL1");
+    room[3 * 15 + 1] = 77;
+    const brb_answer shown = brb_bank_source(room.data(), room.size(), 16, 12, 0, 3);
+    check(shown.number == BRB_DONE && shown.value == 77, "brb_bank_source: record 3 stands three places above the start");
     const std::vector<uint64_t> cc(3, 0x7C4);
     const brb_spread sum = brb_count_sum(cc.data(), cc.size());
     check(sum.number == BRB_DONE && sum.low == 3 * 28928 && sum.high == 3 * 28991 && sum.bounded == 1, "a sum");

@@ -3,6 +3,8 @@
 ghost use mathlib.Core.Path.{_≡_};
 ghost use Rattle.count.specs.Count.{encoded, decoded, fromTo, atLeast, refusedWith, spreadOf};
 
+use bits::pick;
+
 // What a CC value says of the count.
 pub enum Decoded {
     // The smallest and the largest count that have this encoding.
@@ -33,20 +35,20 @@ const LARGEST: u64 = 1_048_575;
 const EXCEEDED: u64 = 0x3FFF;
 
 // A count as CC, 256E + M. Of a count of 256 and more the nine leading binary digits are kept, and M leaves the first of them
-// out, since it is always 1. The digits below are dropped: a count is rounded down.
+// out, since it is always 1. The digits below are dropped: a count is rounded down. All of it is worked out whatever the count is,
+// since no processor guesses how long the next one is.
 pub fn encode(n: u64) -> u64
     ensures { λ r. ⌜ r ≡ encoded n ⌝ }
 {
-    if n > LARGEST {
-        return EXCEEDED;
-    }
-    if n < 256 {
-        return n;
-    }
+    let small = n < 256;
+    let large = n > LARGEST;
+    // a count with both, where this one has none
+    let rounded = pick(small | large, 256, n);
     // the bit length less 8: the bit length is 64 less the leading zeros
-    let e = 56 - u64::leading_zeros(n) as u64;
-    let m = (n >> (e - 1)) - 256;
-    256 * e + m
+    let e = 56 - u64::leading_zeros(rounded) as u64;
+    let m = (rounded >> (e - 1)) - 256;
+    let within = pick(small, n, 256 * e + m);
+    pick(large, EXCEEDED, within)
 }
 
 // What CC says: which counts have it, that the counter was exceeded, or nothing that BRBINF<n>_EL1.CC defines. A count of 20 bits has

@@ -1,22 +1,23 @@
 //! The time of a recorded branch by single calls.
 //!
-//! The library and the model start from the same state and room and take turns every few thousand operations, of which
-//! the median counts, so that what else the computer does falls on both alike or on none; neither call is inlined into
-//! the loop; every operation and every answer goes through a `black_box`; and what the two leave is compared after each
-//! round.
+//! The library, the model and the tight program start from the same state and room and take turns every few thousand
+//! operations, of which the median counts, so that what else the computer does falls on all alike or on none; no call is
+//! inlined into the loop; every operation and every answer goes through a `black_box`; and what they leave is compared
+//! after each round.
 
-use crate::{median, Options};
+use crate::{median, tight, Options};
 use model::{Document01, Rules};
 use std::hint::black_box;
 use std::time::Instant;
 
-/// How many branches one of the two takes before it is the other's turn.
+/// How many branches one of them takes before it is the next one's turn.
 const TURN: usize = 4096;
 
 pub type Numbers = [u64; 6];
 type Step = fn(&mut [u64], &mut [u64], Numbers) -> (u64, u64);
 
-#[inline(never)]
+/// One call of the library, as a host makes it: what is called cannot be inlined.
+#[inline(always)]
 pub fn library(state: &mut [u64], room: &mut [u64], [code, cycles, fields @ ..]: Numbers) -> (u64, u64) {
     let answer = brb::step(state, room, brb::Operation { code, cycles, fields });
     (answer.number, answer.value)
@@ -112,7 +113,8 @@ pub fn with_reads(branches: &[Numbers]) -> impl Iterator<Item = Numbers> + '_ {
 }
 
 /// Nanoseconds an operation that these branches take.
-fn turn(step: Step, lent: &mut Lent, branches: &[Numbers]) -> f64 {
+#[inline(never)]
+fn turn(step: impl Fn(&mut [u64], &mut [u64], Numbers) -> (u64, u64), lent: &mut Lent, branches: &[Numbers]) -> f64 {
     let start = Instant::now();
     let mut done = 0;
     for &branch in branches {
@@ -124,33 +126,34 @@ fn turn(step: Step, lent: &mut Lent, branches: &[Numbers]) -> f64 {
     time.as_nanos() as f64 / branches.len() as f64
 }
 
-/// One round of the library and of the model: the median of their turns.
-fn round(lent: &mut [Lent; 2], branches: &[Numbers], operations: usize) -> [f64; 2] {
-    let mut turns = [Vec::new(), Vec::new()];
+/// One round of the library, of the model and of a step as tight as plain Rust has it: the median of their turns. Each turn has a
+/// loop of its own around one call.
+fn round(lent: &mut [Lent; 3], branches: &[Numbers], operations: usize) -> [f64; 3] {
+    let mut turns = [Vec::new(), Vec::new(), Vec::new()];
     let mut left = operations;
     while left > 0 {
         let branches = &branches[..left.min(TURN)];
         left -= branches.len();
-        for (side, step) in [library as Step, modelled as Step].into_iter().enumerate() {
-            turns[side].push(turn(step, &mut lent[side], branches));
-        }
+        turns[0].push(turn(library, &mut lent[0], branches));
+        turns[1].push(turn(modelled, &mut lent[1], branches));
+        turns[2].push(turn(tight::step, &mut lent[2], branches));
     }
     turns.map(|turns| median(turns.into_iter()))
 }
 
-/// The median nanoseconds an operation of the library and of the model, and the median of the rounds' ratios.
-fn measure(size: u64, branches: &[Numbers], options: &Options) -> (f64, f64, f64) {
-    let mut lent = [Lent::set_up(size, library), Lent::set_up(size, modelled)];
+/// The median nanoseconds an operation of each, and the medians of the rounds' ratios, of the library to the other two.
+fn measure(size: u64, branches: &[Numbers], options: &Options) -> ([f64; 3], [f64; 2]) {
+    let mut lent = [library, modelled, library].map(|step| Lent::set_up(size, step));
     let mut rounds = Vec::new();
     for _ in 0..options.rounds + 1 {
         rounds.push(round(&mut lent, branches, options.operations));
-        assert!(lent[0] == lent[1], "the library and the model leave the same numbers");
+        assert!(lent[0] == lent[1] && lent[0] == lent[2], "all three leave the same numbers");
         assert!(lent[0].is_recorded(size), "all are recorded");
     }
     // The first round warms up and does not count.
     let rounds = &rounds[1..];
-    let [library, model] = [0, 1].map(|side| median(rounds.iter().map(|times| times[side])));
-    (library, model, median(rounds.iter().map(|[library, model]| library / model)))
+    let times = [0, 1, 2].map(|side| median(rounds.iter().map(|times| times[side])));
+    (times, [1, 2].map(|side| median(rounds.iter().map(|times| times[0] / times[side]))))
 }
 
 /// A line a buffer size.
@@ -158,7 +161,7 @@ pub fn report(options: &Options) {
     let branches = branches();
     println!("{} recorded branches a round, medians of {} rounds", options.operations, options.rounds);
     for size in [8, 64] {
-        let (library, model, ratio) = measure(size, &branches, options);
-        println!("size {size:2}: library {library:6.1} ns, model {model:6.1} ns, ratio {ratio:.2}");
+        let ([library, model, tight], [by_model, by_tight]) = measure(size, &branches, options);
+        println!("size {size:2}: library {library:6.1} ns, model {model:6.1} ns, tight {tight:6.1} ns, ratios {by_model:.2} and {by_tight:.2}");
     }
 }

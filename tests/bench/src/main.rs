@@ -6,6 +6,7 @@ mod batch;
 mod branches;
 mod read;
 mod replay;
+mod tight;
 
 use std::path::PathBuf;
 use std::process::ExitCode;

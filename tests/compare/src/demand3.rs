@@ -7,19 +7,17 @@
 //! source alone and a resume its target, and their records show no more.
 
 use crate::engine::is_refused;
-use crate::generate::{Flavour, Generator};
-use crate::shrink::shrink;
+use crate::generate::Flavour;
+use crate::watch::{self, Step, Watch};
 use crate::{Call, Engine, Random, Sequence};
 use brb::{Count, Inf, Spread};
+use model::Record;
 use std::ops::AddAssign;
 
 /// The first address that is given to an event. Event n has source BASE + 2n and target BASE + 2n + 1.
 const BASE: u64 = 1 << 40;
 /// How many operations pass between two looks at all the records.
 const INTERVAL: usize = 16;
-/// What the sequences are mostly about.
-const FLAVOURS: [Flavour; 6] =
-    [Flavour::Recording, Flavour::Recording, Flavour::Boundary, Flavour::Roaming, Flavour::Halting, Flavour::Freezing];
 
 /// When each event of a sequence happened, by the cycles of accepted operations.
 #[derive(Default)]
@@ -28,7 +26,18 @@ struct Bookkeeping {
     times: Vec<u128>,
 }
 
-impl Bookkeeping {
+impl Watch for Bookkeeping {
+    type Seen = Kept;
+    const FLAVOURS: &'static [Flavour] = &[
+        Flavour::Recording,
+        Flavour::Recording,
+        Flavour::Boundary,
+        Flavour::Roaming,
+        Flavour::Halting,
+        Flavour::Freezing,
+    ];
+    const ROOM: usize = 192;
+
     /// The same operation, with an event's own addresses.
     fn tagged(&self, call: Call) -> Call {
         let Call([code, cycles, a, b, ..]) = call;
@@ -41,6 +50,16 @@ impl Bookkeeping {
         }
     }
 
+    fn look(&mut self, step: &Step) -> Result<Kept, String> {
+        self.note(step.call, step.answer.0);
+        if step.place % INTERVAL != 0 && !step.is_last {
+            return Ok(Kept::default());
+        }
+        self.check(&step.after.records().collect::<Vec<_>>())
+    }
+}
+
+impl Bookkeeping {
     /// Notes an answered operation: refused ones and resets take no time.
     fn note(&mut self, call: Call, number: u64) {
         if !is_refused(number) && call.code() != 0 {
@@ -58,10 +77,9 @@ impl Bookkeeping {
     }
 
     /// The records' stretches that keep demand 3, or one that does not.
-    fn check(&self, records: &[u64]) -> Result<Kept, String> {
-        let records = records.chunks_exact(3);
-        let cc: Vec<u64> = records.clone().map(|record| brb::inf_cc_of(record[0])).collect();
-        let shown: Vec<Shown> = records.map(|record| self.shown(record)).collect();
+    fn check(&self, records: &[Record]) -> Result<Kept, String> {
+        let cc: Vec<u64> = records.iter().map(|record| brb::inf_cc_of(record[0])).collect();
+        let shown: Vec<Shown> = records.iter().map(|record| self.shown(record)).collect();
         let mut kept = Kept::default();
         for newest in 0..shown.len() {
             let (stretches, sum) = kept.note_from(&shown, newest)?;
@@ -180,55 +198,8 @@ fn ends(inf: u64) -> Option<(u64, u64)> {
     }
 }
 
-/// Runs a sequence's operations, which `next` makes, and answers how many stretches kept demand 3.
-fn run(engine: &dyn Engine, room: usize, length: usize, mut next: impl FnMut(&[u64]) -> Call) -> Result<Kept, String> {
-    let mut lent = Sequence::fresh(room);
-    let mut books = Bookkeeping::default();
-    let mut kept = Kept::default();
-    for place in 1..=length {
-        let call = books.tagged(next(&lent.state[..model::State::NUMBERS]));
-        let (number, _) = engine.step(&mut lent.state, &mut lent.room, call);
-        books.note(call, number);
-        if place % INTERVAL == 0 || place == length {
-            let records = 3 * lent.state[1] as usize;
-            kept += books.check(&lent.room[..records])?;
-        }
-    }
-    Ok(kept)
-}
-
-/// How a sequence breaks demand 3, if it does.
-pub fn broken(engine: &dyn Engine, sequence: &Sequence) -> Option<String> {
-    let mut calls = sequence.calls.iter();
-    let next = |_: &[u64]| *calls.next().expect("as many operations as the sequence has");
-    run(engine, sequence.room, sequence.calls.len(), next).err()
-}
-
-/// Random sequences, until at least so many operations were run: how many stretches kept demand 3, or a shrunk
-/// sequence that breaks it, and how.
+/// Random sequences, until at least so many operations were run: how many stretches kept demand 3, or a shrunk sequence that
+/// breaks it, and how.
 pub fn explore(engine: &dyn Engine, random: &mut Random, operations: u64) -> Result<Kept, (Sequence, String)> {
-    let (mut done, mut kept) = (0, Kept::default());
-    while done < operations {
-        let length = 1 << (5 + random.below(6));
-        let flavour = random.one_of(&FLAVOURS);
-        let mut generator = Generator::new(random, flavour);
-        let mut calls = Vec::with_capacity(length);
-        let next = |state: &[u64]| {
-            let call = generator.call(state);
-            calls.push(call);
-            call
-        };
-        match run(engine, 192, length, next) {
-            Ok(more) => kept += more,
-            Err(_) => return Err(smallest(engine, Sequence { room: 192, calls })),
-        }
-        done += length as u64;
-    }
-    Ok(kept)
-}
-
-fn smallest(engine: &dyn Engine, sequence: Sequence) -> (Sequence, String) {
-    let shrunk = shrink(sequence, |simpler| broken(engine, simpler).is_some());
-    let how = broken(engine, &shrunk).unwrap_or_default();
-    (shrunk, how)
+    watch::explore::<Bookkeeping>(engine, random, operations)
 }

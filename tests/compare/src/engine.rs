@@ -1,10 +1,10 @@
 //! The two that are compared, behind one signature.
 
 use crate::Call;
-use model::{Answer, Recordings, Refusal};
+use model::{Answer, Asked, Part, Record, Recordings, Refusal};
 
-/// Something that takes an operation on lent numbers and answers a number and a value, and that reads, writes and steps
-/// recordings.
+/// Something that takes an operation on lent numbers and answers a number and a value, that shows records without an
+/// operation, and that reads, writes and steps recordings.
 pub trait Engine {
     fn name(&self) -> &str;
     fn step(&self, state: &mut [u64], room: &mut [u64], call: Call) -> (u64, u64);
@@ -12,6 +12,8 @@ pub trait Engine {
     fn read(&self, state: &mut [u64], room: &mut [u64], cycles: u64, register: u64) -> (u64, u64) {
         self.step(state, room, Call([5, cycles, register, 0, 0, 0]))
     }
+    /// One register of the records, by the bank view.
+    fn bank(&self, room: &[u64], asked: Asked, part: Part) -> (u64, u64);
     /// Reads the operation at a position of a recording into a lent place.
     fn recording_read(&self, bytes: &[u8], at: usize, place: &mut [u64]) -> (u64, u64);
     /// Writes an operation at a position of lent bytes.
@@ -35,6 +37,16 @@ impl Engine for Library {
 
     fn read(&self, state: &mut [u64], room: &mut [u64], cycles: u64, register: u64) -> (u64, u64) {
         let answer = brb::read(state, room, cycles, register);
+        (answer.number, answer.value)
+    }
+
+    fn bank(&self, room: &[u64], Asked { size, start, bank, m }: Asked, part: Part) -> (u64, u64) {
+        let view = match part {
+            Part::Inf => brb::bank_inf,
+            Part::Source => brb::bank_source,
+            Part::Target => brb::bank_target,
+        };
+        let answer = view(room, size, start, bank, m);
         (answer.number, answer.value)
     }
 
@@ -65,6 +77,11 @@ impl<R: Recordings> Engine for Modelled<R> {
     fn step(&self, state: &mut [u64], room: &mut [u64], call: Call) -> (u64, u64) {
         let answer: Answer = self.0.step(state, room, call.0);
         (answer.number(), answer.value())
+    }
+
+    fn bank(&self, room: &[u64], asked: Asked, part: Part) -> (u64, u64) {
+        let shown = self.0.bank_shows(room, asked, part);
+        shown.map_or_else(|refusal| (refusal as u64, 0), |value| (0, value))
     }
 
     fn recording_read(&self, bytes: &[u8], at: usize, place: &mut [u64]) -> (u64, u64) {
@@ -103,6 +120,20 @@ pub struct Lent {
 }
 
 impl Lent {
+    /// The records, newest first, by the state's own size and start: from the start's place to the last one, then from place 0
+    /// on. A start that the size has not is taken as its end.
+    pub fn records(&self) -> impl Iterator<Item = Record> + '_ {
+        let number = |place: usize| self.state[place].min(brb::LARGEST_SIZE as u64) as usize;
+        let size = number(brb::STATE_SIZE).min(self.room.len() / 3);
+        let (before, from) = self.room[..3 * size].split_at(3 * number(brb::STATE_START).min(size));
+        from.chunks_exact(3).chain(before.chunks_exact(3)).map(|record| [record[0], record[1], record[2]])
+    }
+
+    /// Record 0, after a reset.
+    pub fn newest(&self) -> Record {
+        self.records().next().expect("a state with a size, and a room that holds it")
+    }
+
     /// The first difference of what two engines left and answered, in words.
     pub fn difference(engines: [&dyn Engine; 2], lent: [&Lent; 2], answers: [(u64, u64); 2]) -> Option<String> {
         Lent::difference_between(engines.map(|engine| engine.name()), lent, answers)
@@ -131,13 +162,25 @@ impl Lent {
 }
 
 /// A state's numbers by name.
-const STATE_NAMES: [&str; model::State::NUMBERS] =
-    ["level", "size", "v1p1", "P", "BRBCR_EL1", "BRBCR_EL2", "BRBFCR_EL1", "count", "unknown", "halted", "BRBTS_EL1"];
+const STATE_NAMES: [&str; model::State::NUMBERS] = [
+    "level",
+    "size",
+    "v1p1",
+    "P",
+    "BRBCR_EL1",
+    "BRBCR_EL2",
+    "BRBFCR_EL1",
+    "count",
+    "unknown",
+    "halted",
+    "BRBTS_EL1",
+    "start",
+];
 
 fn state_place(place: usize) -> String {
     format!("state number {place} ({})", STATE_NAMES.get(place).unwrap_or(&"past the state"))
 }
 
 fn room_place(place: usize) -> String {
-    format!("room number {place} ({} of record {})", ["BRBINF", "BRBSRC", "BRBTGT"][place % 3], place / 3)
+    format!("room number {place} ({} of place {})", ["BRBINF", "BRBSRC", "BRBTGT"][place % 3], place / 3)
 }

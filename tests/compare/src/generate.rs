@@ -7,7 +7,8 @@ use crate::{Call, Random, Single};
 use model::{BranchType, Platform, State, CONTROL_MASK, EXCEPTION_TYPES, FILTER_MASK, LAST_CODE, PAUSED};
 use std::collections::VecDeque;
 
-const SIZES: [u64; 4] = [8, 16, 32, 64];
+/// The sizes of buffers.
+pub const SIZES: [u64; 4] = [8, 16, 32, 64];
 const LIMIT: u64 = 1_048_576;
 /// TS and FZP of BRBCR_EL1 or BRBCR_EL2, by which freezes go.
 const FREEZE_BITS: u64 = 0x160;
@@ -29,12 +30,26 @@ pub enum Flavour {
     Halting,
     /// As `Recording`, with a freeze every few operations.
     Freezing,
+    /// Nearly every event is a record, and little else happens than reads of them, so that the records go round often.
+    Rounding,
     /// Every other operation has a mistake.
     Careless,
 }
 
 impl Flavour {
-    pub const ALL: [Flavour; 7] = [
+    pub const ALL: [Flavour; 8] = [
+        Flavour::Recording,
+        Flavour::Roaming,
+        Flavour::Boundary,
+        Flavour::Accessing,
+        Flavour::Halting,
+        Flavour::Freezing,
+        Flavour::Rounding,
+        Flavour::Careless,
+    ];
+
+    /// Of a single call the states are made at once, with any start, so that nothing has to go round first.
+    const OF_SINGLE_CALLS: [Flavour; 7] = [
         Flavour::Recording,
         Flavour::Roaming,
         Flavour::Boundary,
@@ -51,9 +66,10 @@ impl Flavour {
             Flavour::Recording => [2, 600, 150, 150, 10, 40, 30, 4, 10, 0, 3, 10],
             Flavour::Roaming => [10, 200, 200, 200, 80, 100, 150, 10, 20, 10, 30, 40],
             Flavour::Boundary => [2, 500, 150, 150, 10, 40, 40, 10, 20, 0, 5, 10],
-            Flavour::Accessing => [5, 30, 100, 150, 60, 350, 200, 80, 20, 10, 10, 20],
+            Flavour::Accessing => [5, 30, 100, 150, 60, 350, 200, 130, 20, 10, 10, 20],
             Flavour::Halting => [10, 150, 100, 100, 60, 60, 80, 10, 150, 150, 30, 40],
             Flavour::Freezing => [5, 200, 100, 100, 20, 40, 100, 4, 20, 10, 350, 10],
+            Flavour::Rounding => [9, 500, 20, 20, 2, 300, 60, 2, 5, 0, 1, 10],
             Flavour::Careless => [40, 100, 100, 100, 50, 60, 60, 20, 50, 30, 60, 560],
         }
     }
@@ -69,16 +85,28 @@ struct Seen {
     count: u64,
     halted: bool,
     paused: bool,
+    size: u64,
+    start: u64,
+    bank: u64,
 }
 
 impl Seen {
     /// EL3, where a reset leads to.
-    const AT_EL3: Seen = Seen { level: 3, platform: 0, count: 0, halted: false, paused: false };
+    const AT_EL3: Seen =
+        Seen { level: 3, platform: 0, count: 0, halted: false, paused: false, size: 0, start: 0, bank: 0 };
 
     fn new(state: &[u64]) -> Seen {
         let number = |place: usize| state.get(place).copied().unwrap_or(0);
         let (halted, paused) = (number(9) == 1, number(6) & PAUSED != 0);
-        Seen { level: number(0).min(3), platform: number(3), count: number(7), halted, paused }
+        let (size, start, bank) = (number(1).min(64), number(11).min(64), number(6) >> 28 & 3);
+        Seen { level: number(0).min(3), platform: number(3), count: number(7), halted, paused, size, start, bank }
+    }
+
+    /// The number of the record that stands at the last place, or that has gone round to place 0, or one beside them: m of its
+    /// register, where the bank shows it.
+    fn near_the_end(&self, beside: u64) -> Option<u64> {
+        let record = (self.size + beside).checked_sub(self.start + 2)?;
+        (record < self.size && record / 32 == self.bank).then_some(record % 32)
     }
 
     fn el2_enabled(&self) -> bool {
@@ -213,14 +241,14 @@ impl<'r> Generator<'r> {
     fn of_code(&mut self, code: u64, seen: &Seen) -> Call {
         let cycles = self.cycles(seen);
         let fields = match code {
-            0 => [self.random.one_of(&SIZES), self.random.below(2), self.beyond(), self.beyond()],
+            0 => [self.size(), self.random.below(2), self.beyond(), self.beyond()],
             1 => [self.branch_type(), self.random.below(2), self.address(), self.address()],
             2 => [self.random.one_of(&EXCEPTION_TYPES), self.exception_level(seen), self.address(), self.address()],
             3 => [self.return_level(seen), self.random.below(2), self.address(), self.address()],
             4 => [self.platform(), self.beyond(), self.beyond(), self.beyond()],
-            5 => [self.register(), self.beyond(), self.beyond(), self.beyond()],
+            5 => [self.register(seen), self.beyond(), self.beyond(), self.beyond()],
             6 => {
-                let (register, value) = self.write();
+                let (register, value) = self.write(seen);
                 [register, value, self.beyond(), self.beyond()]
             }
             8 => [self.address(), self.beyond(), self.beyond(), self.beyond()],
@@ -355,6 +383,16 @@ impl<'r> Generator<'r> {
         }
     }
 
+    /// The size of a reset: that with two banks more often where it is about where records stand.
+    fn size(&mut self) -> u64 {
+        let largest = self.flavour == Flavour::Rounding && self.random.percent(40);
+        if largest {
+            64
+        } else {
+            self.random.one_of(&SIZES)
+        }
+    }
+
     fn branch_type(&mut self) -> u64 {
         self.random.one_of(&BranchType::ALL) as u64
     }
@@ -388,8 +426,11 @@ impl<'r> Generator<'r> {
 
     /// A platform word: mostly non-secure with recording allowed, or else any.
     fn platform(&mut self) -> u64 {
-        if self.random.percent(30) {
+        if self.random.percent(if self.flavour == Flavour::Rounding { 5 } else { 30 }) {
             return self.random.number() & Platform::MASK;
+        }
+        if self.flavour == Flavour::Rounding {
+            return 0x71;
         }
         let mut platform = self.random.one_of(&[0x31, 0x31, 0x11, 0x32, 0x33, 0x30]);
         let rare = if self.flavour == Flavour::Accessing { 40 } else { 15 };
@@ -406,6 +447,7 @@ impl<'r> Generator<'r> {
         let (ts, fzp) = (self.random.one_of(&[0, 0, 0, 1, 2, 3]) << 5, u64::from(self.random.percent(80)) << 8);
         let mostly = CONTROL_MASK & !FREEZE_BITS | ts | fzp;
         match self.random.below(20) {
+            _ if self.flavour == Flavour::Rounding => CONTROL_MASK & !FREEZE_BITS,
             0..=8 => mostly,
             9..=14 => mostly & !(1 << self.random.below(24)),
             15..=17 => self.random.number() & CONTROL_MASK,
@@ -418,6 +460,7 @@ impl<'r> Generator<'r> {
     fn filter(&mut self) -> u64 {
         let types = self.random.number() & 0x7E_0000;
         let filter = match self.random.below(20) {
+            _ if self.flavour == Flavour::Rounding => 0x1_0000,
             0..=7 => 0x1_0000,
             8..=10 => 0x7E_0000,
             11..=13 => 0x1_0000 | types,
@@ -426,22 +469,25 @@ impl<'r> Generator<'r> {
             18 => 0x1_0080,
             _ => self.random.number(),
         };
-        let bank = if self.random.percent(30) { self.random.below(4) << 28 } else { 0 };
+        let banked = if self.flavour == Flavour::Rounding { 60 } else { 30 };
+        let bank = if self.random.percent(banked) { self.random.one_of(&[0, 1, 1, 1, 2, 3]) << 28 } else { 0 };
         filter | bank
     }
 
-    fn register(&mut self) -> u64 {
-        match self.random.below(10) {
-            0..=3 => self.random.below(5),
-            4 => 4,
-            5 | 6 => 32 * (1 + self.random.below(3)) + self.random.below(9),
+    fn register(&mut self, seen: &Seen) -> u64 {
+        let part = 32 * (1 + self.random.below(3));
+        match (self.random.below(12), seen.near_the_end(self.random.one_of(&[0, 1, 1, 2, 2, 3]))) {
+            (0..=3, _) => self.random.below(5),
+            (4, _) => 4,
+            (5..=8, Some(m)) => part + m,
+            (5..=8, None) => part + self.random.below(9),
             _ => 32 + self.random.below(96),
         }
     }
 
-    fn write(&mut self) -> (u64, u64) {
+    fn write(&mut self, seen: &Seen) -> (u64, u64) {
         match self.random.below(20) {
-            0 => (self.register(), self.random.number()),
+            0 => (self.register(seen), self.random.number()),
             1 => (4, self.random.number()),
             2..=6 => (1, self.control()),
             7..=12 => (2, self.control()),
@@ -478,7 +524,7 @@ pub fn single(random: &mut Random) -> (Single, Option<usize>) {
         }
     }
     let room = (0..single_room(random, &state)).map(|_| random.number()).collect();
-    let flavour = random.one_of(&Flavour::ALL);
+    let flavour = random.one_of(&Flavour::OF_SINGLE_CALLS);
     let call = Generator::midway(random, flavour).call(&state);
     (Single { state, room, call }, reason)
 }
@@ -499,7 +545,7 @@ pub fn unsound(random: &mut Random, reason: usize) -> Vec<u64> {
 
 /// The sound numbers of a state and up to three past them.
 fn sound_state(random: &mut Random) -> Vec<u64> {
-    let flavour = random.one_of(&Flavour::ALL);
+    let flavour = random.one_of(&Flavour::OF_SINGLE_CALLS);
     let mut generator = Generator::midway(random, flavour);
     let platform = generator.platform();
     let (cr1, cr2) = (generator.control() & CONTROL_MASK, generator.control() & CONTROL_MASK);
@@ -507,16 +553,30 @@ fn sound_state(random: &mut Random) -> Vec<u64> {
     let fcr = generator.filter() & FILTER_MASK | paused;
     let level = generator.level_of(&Seen { platform, ..Seen::AT_EL3 }, 0, 3);
     let time = generator.clock();
-    let size = if random.percent(4) { 0 } else { random.one_of(&SIZES) };
+    let size = if random.percent(4) { 0 } else { random.one_of(&[8, 16, 32, 64, 64]) };
+    // The second bank has records of the largest size alone.
+    let fcr = if size == 64 && random.percent(40) { fcr & !(3 << 28) | 1 << 28 } else { fcr };
     let count = match random.below(4) {
         0 => random.one_of(&[0, 255, 256, 511, 513, LIMIT - 1, LIMIT]),
         _ => random.of_length(20),
     };
     let halted = u64::from(random.percent(25));
     let (v1p1, unknown) = (random.below(2), random.below(2));
-    let mut state = vec![level, size, v1p1, platform, cr1, cr2, fcr, count, unknown, halted, time];
+    let start = start(random, size);
+    let mut state = vec![level, size, v1p1, platform, cr1, cr2, fcr, count, unknown, halted, time, start];
     state.extend((0..random.below(4)).map(|_| random.number()));
     state
+}
+
+/// A sound start: any, those where a new record or a record that is read goes round more often.
+pub fn start(random: &mut Random, size: u64) -> u64 {
+    match random.below(10) {
+        _ if size == 0 => 0,
+        0 | 1 => 0,
+        2 => 1,
+        3 => size - 1,
+        _ => random.below(size),
+    }
 }
 
 /// Makes a state unsound for the reason of this number (the order of [`crate::shares`]).
@@ -550,8 +610,34 @@ fn spoil(random: &mut Random, state: &mut Vec<u64>, reason: usize) {
         }
         10 => state[7] = above(random, LIMIT),
         11 => state[8] = above(random, 1),
-        _ => state[9] = above(random, 1),
+        12 => state[9] = above(random, 1),
+        13 => state.truncate(State::NUMBERS - 1),
+        reason => spoil_start(random, state, reason - 14),
     }
+}
+
+/// How a start is not sound: six ways, as [`crate::shares`] names them. A size that is none becomes one, so that the start is
+/// judged by it; the last way is before a reset.
+fn spoil_start(random: &mut Random, state: &mut [u64], way: usize) {
+    if !SIZES.contains(&state[1]) || (way, state[1]) == (2, 64) {
+        state[1] = random.one_of(&SIZES[..3]);
+    }
+    let size = state[1];
+    state[11] = match way {
+        0 => size,
+        1 => size + 1,
+        2 => size + 2 + random.below(62 - size),
+        3 => random.wide(64).max(64),
+        4 => u64::MAX - random.below(130),
+        _ => {
+            state[1] = 0;
+            if random.percent(50) {
+                1 + random.below(63)
+            } else {
+                random.wide(64).max(1)
+            }
+        }
+    };
 }
 
 /// A room's length: any from 0 to 200, or near what the state needs.

@@ -34,4 +34,14 @@ impl Random {
         let length = self.below(bits + 1) as u32;
         self.number().checked_shr(64 - length).unwrap_or(0)
     }
+
+    /// A number of any kind; some would be small ones if their upper bits were lost, in a product too.
+    pub fn wide(&mut self, near: u64) -> u64 {
+        match self.below(4) {
+            0 => self.number(),
+            1 => self.of_length(64),
+            2 => self.below(2 * near) + (1 << self.below(64)),
+            _ => self.one_of(&[u64::MAX / 3 + 1, u64::MAX - 31, u64::MAX, 1 << 59]),
+        }
+    }
 }

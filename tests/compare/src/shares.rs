@@ -1,12 +1,12 @@
 //! Which outcomes were met, and how often: a generator that never records proves nothing.
 
 use crate::engine::Lent;
-use crate::{freezes, halts, Call, Since};
+use crate::{freezes, halts, starts, Call, Since};
 use model::{Cause, Document01, Rules, Shape, State};
 use std::fmt;
 
 /// What is counted, in groups.
-const GROUPS: [(&str, &[&str]); 15] = [
+const GROUPS: [(&str, &[&str]); 20] = [
     (
         "answers",
         &[
@@ -59,6 +59,13 @@ const GROUPS: [(&str, &[&str]); 15] = [
             "count above 1,048,576",
             "unknown above 1",
             "halted above 1",
+            "one number too few",
+            "start is the size",
+            "start one above the size",
+            "start above the size, up to 63",
+            "start 64 or above",
+            "start near 2^64",
+            "start not 0 before a reset",
         ],
     ),
     (
@@ -78,6 +85,11 @@ const GROUPS: [(&str, &[&str]); 15] = [
     ("freezes that do not happen", &freezes::NOT_FROZEN),
     ("accesses to BRBTS_EL1", &freezes::ACCESSES),
     ("while frozen", &freezes::WHILE_FROZEN),
+    ("recorded events, by size and start", &starts::PUSHED),
+    ("reads of records, by their places", &starts::READ),
+    ("what puts the start to 0", &starts::CLEARED),
+    ("what keeps a start that is not 0", &starts::KEPT),
+    ("what 7 refuses by the start alone", &starts::UNSOUND),
 ];
 
 /// The groups by their places.
@@ -96,9 +108,14 @@ const DIFFERENCES: usize = 11;
 const NOT_FROZEN: usize = 12;
 const ACCESSES: usize = 13;
 const WHILE_FROZEN: usize = 14;
+const PUSHED: usize = 15;
+const READ: usize = 16;
+const CLEARED: usize = 17;
+const KEPT: usize = 18;
+const UNSOUND_START: usize = 19;
 
 /// A group has at most so many classes.
-const MOST: usize = 14;
+const MOST: usize = 21;
 
 /// How many reasons there are for a state not to be sound.
 pub const REASONS: usize = GROUPS[UNSOUND].1.len();
@@ -117,21 +134,36 @@ pub struct Shares {
 impl Shares {
     /// Notes an answered operation: the answer, what an accepted event became, and the count of its record. Answers the cause
     /// of the record, if there is one.
-    pub fn note(&mut self, before: &[u64], call: Call, number: u64, room: &[u64]) -> Option<Cause> {
+    pub fn note(&mut self, before: &[u64], call: Call, number: u64, after: &Lent) -> Option<Cause> {
         self.met[ANSWERS][answer_class(number)] += 1;
-        if let Some(state) = Document01.sound(before).filter(|state| state.size != 0) {
-            self.note_halts(&state, call, number, room.len());
-            self.note_freezes(&state, call, number);
+        let room = after.room.len();
+        let event = if call.is_event() && number == 0 { event_of(before, room, call) } else { None };
+        let recorded = matches!(event, Some((_, Some(_))));
+        match Document01.sound(before) {
+            Some(state) if state.size != 0 => {
+                self.note_halts(&state, call, number, room);
+                self.note_freezes(&state, call, number);
+                self.note_starts(&state, call, number, recorded);
+            }
+            Some(_) => {}
+            None => self.count([(UNSOUND_START, starts::of_unsound(before))]),
         }
-        if !call.is_event() || number != 0 {
-            return None;
-        }
-        let (cause, shape) = event_of(before, room.len(), call)?;
+        let (cause, shape) = event?;
         self.met[EVENTS][event_class(cause, shape)] += 1;
         shape.map(|_| {
-            self.met[RECORDS][count_class(room[0])] += 1;
+            self.met[RECORDS][count_class(after.newest()[0])] += 1;
             cause
         })
+    }
+
+    /// Notes what the start has to do with an answered operation.
+    fn note_starts(&mut self, state: &State, call: Call, number: u64, recorded: bool) {
+        self.count([
+            (PUSHED, recorded.then(|| starts::of_record(state))),
+            (READ, starts::of_read(state, call, number)),
+            (CLEARED, starts::of_clearing(state, call, number)),
+            (KEPT, if recorded { None } else { starts::of_keeping(state, call, number) }),
+        ]);
     }
 
     /// Notes what a halt has to do with an answered operation.
@@ -169,8 +201,8 @@ impl Shares {
     pub fn note_in_sequence(&mut self, since: &mut Since, before: &[u64], call: Call, number: u64, lent: &Lent) {
         self.count([(WHILE_FROZEN, since.frozen_class(before, &lent.state, call, number))]);
         since.note(before, &lent.state, call, number);
-        if let Some(cause) = self.note(before, call, number, &lent.room) {
-            let count = count_class(lent.room[0]);
+        if let Some(cause) = self.note(before, call, number, lent) {
+            let count = count_class(lent.newest()[0]);
             self.count([
                 (AFTER_IALL, since.class(before, count)),
                 (COUNTS_AND_HALTS, since.halt_class(before, cause, count)),

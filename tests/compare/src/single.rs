@@ -1,6 +1,6 @@
 use crate::engine::Lent;
 use crate::shrink::{smaller, with_smaller_number};
-use crate::{Call, Case, Engine};
+use crate::{starts, Call, Case, Engine};
 use std::fmt;
 
 /// One operation on any state and room. A read is done by the function for reads as well.
@@ -16,7 +16,7 @@ impl Single {
         Lent { state: self.state.clone(), room: self.room.clone() }
     }
 
-    /// What both engines answer and leave, or how they disagree.
+    /// What both engines answer and leave, or how they disagree, or what the first may not have written.
     pub fn compare(&self, engines: [&dyn Engine; 2]) -> Result<((u64, u64), Lent), String> {
         let mut lent = [self.lent(), self.lent()];
         let mut answers = [(0, 0); 2];
@@ -35,6 +35,7 @@ impl Single {
             }
         }
         let [left, _] = lent;
+        starts::check_written(&self.lent(), &left, self.call, answers[0].0)?;
         Ok((answers[0], left))
     }
 }

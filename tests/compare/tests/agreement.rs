@@ -6,10 +6,14 @@ use compare::{demand3, run, Engine, Library, Modelled, Random, Shares};
 use model::Document01;
 
 const SEQUENCE_OPERATIONS: u64 = 8_000_000;
-const SINGLE_CALLS: u64 = 3_000_000;
+const SINGLE_CALLS: u64 = 4_000_000;
 const DEMAND_3_OPERATIONS: u64 = 3_000_000;
 /// Fewer cases of a class than this prove nothing.
 const LEAST: u64 = 1_000;
+
+/// What no sequence from a fresh state meets.
+const NOT_IN_SEQUENCES: [&str; 4] =
+    ["refused 7", "unsound states", "where 6 would follow", "what 7 refuses by the start alone"];
 
 const ENGINES: [&dyn Engine; 2] = [&Library, &Modelled(Document01)];
 
@@ -25,7 +29,7 @@ fn sequences_from_a_fresh_state() {
     let mut shares = Shares::default();
     match run::sequences(ENGINES, &mut Random::new(seed), SEQUENCE_OPERATIONS, &mut shares) {
         // From a fresh state no state is ever unsound, and no room too short for it.
-        Ok(agreed) => report("sequences", agreed, &shares, &["refused 7", "unsound states", "where 6 would follow"]),
+        Ok(agreed) => report("sequences", agreed, &shares, &NOT_IN_SEQUENCES),
         Err(disagreement) => panic!("seed {seed}: {disagreement}"),
     }
 }

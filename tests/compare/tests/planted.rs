@@ -1,31 +1,13 @@
 //! The comparison is tried on wrong models, each with one planted error: it must find the error and shrink the case to a
 //! few operations. Document 01's "easy errors" come first. `-- --nocapture` shows each shrunk case.
 
+use compare::planted::{check_each, found, LONGEST, LONGEST_ROUND, OPERATIONS, SEED};
 use compare::seed::{self, say};
-use compare::{demand3, run, Engine, Library, Modelled, Random, Shares};
+use compare::{demand3, planted_rules, Engine, Modelled, Random};
 use model::{
     count, room, ts, Access, Answer, BranchType, Cause, Clock, Document01, Event, Group, Level, Operation, Outcome,
     Platform, Record, Recordings, Refusal, Register, Rules, Shape, Side, State, LAST_CODE, PAUSED,
 };
-
-/// How many operations of each kind an error may hide from.
-const OPERATIONS: u64 = 1_000_000;
-/// A shrunk case has at most so many operations.
-const LONGEST: usize = 12;
-/// These tests are about the comparison itself: they repeat unless told otherwise.
-const SEED: u64 = 1;
-
-/// Wrong models, each by the words that say what is wrong and the rules that it changes.
-macro_rules! planted {
-    ($(($words:literal, $name:ident { $($rule:tt)* }))*) => {
-        $(
-            struct $name;
-            impl Rules for $name { $($rule)* }
-            impl Recordings for $name {}
-        )*
-        const PLANTED: &[(&str, &dyn Engine)] = &[$(($words, &Modelled($name))),*];
-    };
-}
 
 fn bit(number: u64, n: u32) -> bool {
     number >> n & 1 == 1
@@ -53,7 +35,7 @@ fn halted_wrongly(state: &State, code: u64) -> bool {
     }
 }
 
-planted! {
+planted_rules! {
     ("EnI read as \"nothing unless chosen\"", NothingUnlessChosen {
         fn chosen(&self, fcr: u64, kind: BranchType) -> bool {
             bit(fcr, kind.filter_bit())
@@ -575,17 +557,6 @@ planted! {
             Document01.sound(&numbers)
         }
     })
-    ("a state of ten numbers is enough", TenNumbers {
-        fn step(&self, state: &mut [u64], room: &mut [u64], numbers: [u64; 6]) -> Answer {
-            if state.len() != 10 {
-                return Document01.step(state, room, numbers);
-            }
-            let mut eleven = [&state[..], &[0]].concat();
-            let answer = Document01.step(&mut eleven, room, numbers);
-            state.copy_from_slice(&eleven[..10]);
-            answer
-        }
-    })
     ("a halt's cycles do not count", HaltCyclesLost {
         fn perform(&self, state: &mut State, room: &mut [u64], operation: Operation, cycles: u64) -> Answer {
             let halt = matches!(operation, Operation::Halt { .. });
@@ -785,10 +756,10 @@ planted! {
 struct OldestKept;
 
 impl Rules for OldestKept {
-    fn happen(&self, state: &mut State, room: &mut [u64], event: Event) {
-        let oldest = room::needed(state.size) - 3..room::needed(state.size);
+    fn push(&self, state: &mut State, room: &mut [u64], record: Record) {
+        let oldest = room::numbers(self.new_place(state.size, state.start));
         let kept = room[oldest.clone()].to_vec();
-        Document01.happen(state, room, event);
+        Document01.push(state, room, record);
         if kept[0] != 0 {
             room[oldest].copy_from_slice(&kept);
         }
@@ -797,32 +768,9 @@ impl Rules for OldestKept {
 
 impl Recordings for OldestKept {}
 
-/// The first disagreement of the library with a wrong model: on sequences, or else on single calls.
-fn found(wrong: &dyn Engine, seed: u64) -> Option<run::Disagreement> {
-    let engines: [&dyn Engine; 2] = [&Library, wrong];
-    let mut shares = Shares::default();
-    let in_sequences = run::sequences(engines, &mut Random::new(seed), OPERATIONS, &mut shares).err();
-    in_sequences.or_else(|| run::singles(engines, &mut Random::new(seed), OPERATIONS, &mut shares).err())
-}
-
 #[test]
 fn each_planted_error_is_found_and_shrunk() {
-    let seed = seed::of_test("planted errors", || SEED);
-    let (mut missed, mut longest) = (Vec::new(), 0);
-    for (words, wrong) in PLANTED {
-        match found(*wrong, seed) {
-            Some(disagreement) => {
-                println!("planted: {words}\n  {disagreement}");
-                longest = longest.max(disagreement.operations);
-                if disagreement.operations > LONGEST {
-                    missed.push(format!("{words}: shrunk to {} operations only", disagreement.operations));
-                }
-            }
-            None => missed.push(format!("{words}: not found")),
-        }
-    }
-    assert!(missed.is_empty(), "{missed:#?}");
-    say(&format!("planted errors: all {} found, shrunk to at most {longest} operations", PLANTED.len()));
+    check_each("planted errors", PLANTED, LONGEST);
 }
 
 /// This one shows no sooner than with the ninth record of eight, so that its case cannot be as short.
@@ -831,7 +779,7 @@ fn an_error_in_a_full_buffer_is_found() {
     let seed = seed::of_test("planted error in a full buffer", || SEED);
     let disagreement = found(&Modelled(OldestKept), seed).expect("the error is found");
     println!("planted: the oldest record of a full buffer is kept\n  {disagreement}");
-    assert!(disagreement.operations <= LONGEST + 9, "{disagreement}");
+    assert!(disagreement.operations <= LONGEST_ROUND, "{disagreement}");
 }
 
 /// Demand 3 is broken by these, and the bookkeeping sees it without any model beside it.

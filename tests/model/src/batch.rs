@@ -120,8 +120,8 @@ mod tests {
             assert_eq!(lent.answers[..16], [0; 16]);
             assert_eq!(lent.answers[16..24], S1_READS);
             assert!(lent.answers[24..].iter().all(|&number| number == BEFORE), "{numbers} numbers");
-            assert_eq!(lent.state, [1, 8, 0, 49, 10, 8, 65536, 0, 0, 0, 0]);
-            assert_eq!(lent.room[..2], [0x0000_012C_0000_0843, 0x1010]);
+            assert_eq!(lent.state, [1, 8, 0, 49, 10, 8, 65536, 0, 0, 0, 0, 6]);
+            assert_eq!(lent.room[18..20], [0x0000_012C_0000_0843, 0x1010], "at place 6");
         }
         for numbers in [23, 22, 0] {
             Lent::fresh(192, numbers).refused(&s1, Refusal::RoomTooShort);

@@ -17,7 +17,7 @@
 
 mod access;
 mod answer;
-pub mod bank;
+mod bank;
 pub mod batch;
 pub mod count;
 mod event;
@@ -37,6 +37,7 @@ mod state;
 
 pub use access::{Access, Outcome};
 pub use answer::{Answer, Refusal};
+pub use bank::Asked;
 pub use batch::Batches;
 pub use count::Counts;
 pub use event::{Cause, Event, Record, Shape, Side};

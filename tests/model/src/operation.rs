@@ -130,6 +130,10 @@ pub enum Part {
     Target = 2,
 }
 
+impl Part {
+    pub const ALL: [Part; 3] = [Part::Inf, Part::Source, Part::Target];
+}
+
 impl Register {
     #[inline]
     pub fn from_number(number: u64) -> Option<Register> {

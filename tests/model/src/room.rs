@@ -1,6 +1,8 @@
-//! The records in the lent room: record r at 3r, the newest first.
+//! The lent room: a place for each record, three numbers each. Which record stands at which place is a matter of
+//! [`Rules`](crate::Rules).
 
-use crate::Record;
+use crate::{Part, Record};
+use std::ops::Range;
 
 /// How many numbers the records of a buffer take.
 #[inline]
@@ -8,15 +10,25 @@ pub fn needed(size: usize) -> usize {
     3 * size
 }
 
-/// A new record becomes number 0, the others move up one, the oldest of a full buffer is lost.
+/// Where the three numbers of a place stand.
 #[inline]
-pub fn push(room: &mut [u64], size: usize, record: Record) {
-    let records = &mut room[..needed(size)];
-    records.copy_within(..needed(size - 1), 3);
-    records[..3].copy_from_slice(&record);
+pub fn numbers(place: usize) -> Range<usize> {
+    3 * place..3 * place + 3
 }
 
-/// Every record zero.
+/// A record at its place.
+#[inline]
+pub fn write(room: &mut [u64], place: usize, record: Record) {
+    room[numbers(place)].copy_from_slice(&record);
+}
+
+/// One number of what stands at a place. A wrong model may ask for a place that the room has not, and sees 0 there.
+#[inline]
+pub fn number(room: &[u64], place: usize, part: Part) -> u64 {
+    room.get(3 * place + part as usize).copied().unwrap_or(0)
+}
+
+/// Every place zero.
 #[inline]
 pub fn clear(room: &mut [u64], size: usize) {
     room[..needed(size)].fill(0);

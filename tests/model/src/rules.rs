@@ -2,9 +2,9 @@
 //! adds to.
 
 use crate::{
-    bit, buffer_size, count, exception_type, flag, room, ts, Access, Answer, BranchType, Cause, Clock, Event, Group,
-    Level, Operation, Outcome, Platform, Record, Refusal, Register, Shape, Side, State, CONTROL_MASK, FILTER_MASK,
-    LAST_CODE, PAUSED,
+    bit, buffer_size, count, exception_type, flag, room, ts, Access, Answer, Asked, BranchType, Cause, Clock, Event,
+    Group, Level, Operation, Outcome, Part, Platform, Record, Refusal, Register, Shape, Side, State, CONTROL_MASK,
+    FILTER_MASK, LAST_CODE, PAUSED,
 };
 
 /// Document 01 as it stands, with the requests of document 02 that have landed.
@@ -86,6 +86,7 @@ pub trait Rules {
             unknown: true,
             halted: false,
             time: 0,
+            start: self.start_after_reset(state),
         };
         room::clear(room, size);
     }
@@ -122,12 +123,13 @@ pub trait Rules {
 
     /// 7: the state in these numbers, none where it is not sound.
     fn sound(&self, numbers: &[u64]) -> Option<State> {
-        let &[level, size, v1p1, platform, cr1, cr2, fcr, count, unknown, halted, time, ..] = numbers else {
+        let &[level, size, v1p1, platform, cr1, cr2, fcr, count, unknown, halted, time, start, ..] = numbers else {
             return None;
         };
+        let size = if size == 0 { 0 } else { buffer_size(size)? };
         let state = State {
             level: Level::from_number(level)?,
-            size: if size == 0 { 0 } else { buffer_size(size)? },
+            size,
             v1p1: flag(v1p1)?,
             platform: Platform::from_number(platform)?,
             cr1: (cr1 & !CONTROL_MASK == 0).then_some(cr1)?,
@@ -137,8 +139,15 @@ pub trait Rules {
             unknown: flag(unknown)?,
             halted: flag(halted)?,
             time,
+            start: self.sound_start(size, start)?,
         };
         self.can_be_entered(state.platform, state.level).then_some(state)
+    }
+
+    /// The start (document 02, Seven): a place that the size has; before a reset, where there is none, 0 alone.
+    fn sound_start(&self, size: usize, start: u64) -> Option<usize> {
+        let sound = if size == 0 { start == 0 } else { start < size as u64 };
+        sound.then_some(start as usize)
     }
 
     /// Level 2 is there where EL2 is enabled, level 1 unless TGE and EL2 is enabled (refusals 7 and 5).
@@ -264,12 +273,16 @@ pub trait Rules {
 
     /// An accepted event: its record, if it becomes one, and the move to its other side.
     fn happen(&self, state: &mut State, room: &mut [u64], event: Event) {
-        if let Some(shape) = self.shape(state, &event) {
-            let record = self.record(state, &event, shape);
-            room::push(room, state.size, record);
+        if let Some(record) = self.recorded(state, &event) {
+            self.push(state, room, record);
             self.restart_count(state);
         }
         self.enter(state, event.to);
+    }
+
+    /// The record that an event becomes, if it becomes one.
+    fn recorded(&self, state: &State, event: &Event) -> Option<Record> {
+        self.shape(state, event).map(|shape| self.record(state, event, shape))
     }
 
     /// The move to a level, or to Debug state, in which the level stays as it is.
@@ -372,6 +385,49 @@ pub trait Rules {
             event.target
         } else {
             0
+        }
+    }
+
+    // ---------------------------------------------------------------------------------------------------------------
+    // The round buffer (document 02, Seven), which replaces document 01's places in the room
+
+    /// Where a record stands: record 0 at the start, the others behind it, from place 0 on again where the size ends.
+    fn place(&self, size: usize, start: usize, record: usize) -> usize {
+        if start + record < size {
+            start + record
+        } else {
+            start + record - size
+        }
+    }
+
+    /// Where a new record goes: one place below the start, and to the last place from place 0.
+    fn new_place(&self, size: usize, start: usize) -> usize {
+        if start == 0 {
+            size - 1
+        } else {
+            start - 1
+        }
+    }
+
+    /// A new record: its place is the new start, so that each other record's number is one more. The oldest of a full buffer
+    /// stood there. Nothing else is written, and nothing moves.
+    fn push(&self, state: &mut State, room: &mut [u64], record: Record) {
+        let place = self.new_place(state.size, state.start);
+        room::write(room, place, record);
+        state.start = place;
+    }
+
+    /// The start after an accepted reset, by the state before it.
+    fn start_after_reset(&self, _: &State) -> usize {
+        0
+    }
+
+    /// The start after a BRB IALL: 0 where it was performed, and else what it was.
+    fn start_after_iall(&self, state: &State, outcome: Outcome) -> usize {
+        if outcome == Outcome::Performed {
+            0
+        } else {
+            state.start
         }
     }
 
@@ -546,10 +602,10 @@ pub trait Rules {
             Register::Cr2 => state.cr2,
             Register::Fcr => state.fcr,
             Register::Ts => state.time,
-            Register::Record { part, m } => {
-                let shown = self.shown_record(state, m);
-                shown.and_then(|record| room.get(3 * record + part as usize)).copied().unwrap_or(0)
-            }
+            Register::Record { part, m } => self.shown_record(state, m).map_or(0, |record| {
+                let place = self.place(state.size, state.start, record);
+                room::number(room, place, part)
+            }),
         }
     }
 
@@ -580,14 +636,63 @@ pub trait Rules {
     fn iall(&self, state: &mut State, room: &mut [u64]) -> Answer {
         let outcome = self.outcome(state, Access::InvalidateAll);
         state.unknown |= self.iall_is_occasion(outcome);
+        state.start = self.start_after_iall(state, outcome);
         outcome.or_else(|| {
             self.invalidate_all(state, room);
             Answer::Done
         })
     }
 
-    /// "BRB IALL sets every record to zero and lets the count run on." That it is an occasion is a rule of its own.
+    /// "BRB IALL sets every record to zero and lets the count run on." That it is an occasion, and what becomes of the start,
+    /// are rules of their own.
     fn invalidate_all(&self, state: &mut State, room: &mut [u64]) {
         room::clear(room, state.size);
+    }
+
+    // ---------------------------------------------------------------------------------------------------------------
+    // The bank view
+
+    /// What the bank shows as record register `m`, or 0 where that record is not below the size.
+    fn bank_shows(&self, room: &[u64], asked: Asked, part: Part) -> Result<u64, Refusal> {
+        if let Some(refusal) = self.bank_refusal(room.len(), asked) {
+            return Err(refusal);
+        }
+        let [size, start, record] = [asked.size, asked.start, asked.record()].map(|number| number as usize);
+        if record >= size {
+            return Ok(0);
+        }
+        Ok(room::number(room, self.bank_place(size, start, record), part))
+    }
+
+    /// What refuses to look: size, bank and m are judged first, then the start by the size, then the room by the size.
+    fn bank_refusal(&self, room_numbers: usize, asked: Asked) -> Option<Refusal> {
+        if self.bank_outside_list(asked) {
+            Some(Refusal::OutsideList)
+        } else if self.bank_start_unsound(asked) {
+            Some(Refusal::NotSound)
+        } else if self.bank_room_too_short(room_numbers, asked) {
+            Some(Refusal::RoomTooShort)
+        } else {
+            None
+        }
+    }
+
+    /// "A size outside 8, 16, 32 and 64, a BANK above 3 or an m above 31".
+    fn bank_outside_list(&self, asked: Asked) -> bool {
+        buffer_size(asked.size).is_none() || asked.bank > 3 || asked.m > 31
+    }
+
+    /// The size is one of the four here, so that there is a place for record 0 where the start is below it.
+    fn bank_start_unsound(&self, asked: Asked) -> bool {
+        asked.start >= asked.size
+    }
+
+    fn bank_room_too_short(&self, room_numbers: usize, asked: Asked) -> bool {
+        room_numbers < room::needed(asked.size as usize)
+    }
+
+    /// A record stands where a read finds it.
+    fn bank_place(&self, size: usize, start: usize, record: usize) -> usize {
+        self.place(size, start, record)
     }
 }

@@ -30,13 +30,16 @@ pub struct State {
     pub halted: bool,
     /// BRBTS_EL1, the time of the last freeze (document 02, Six): any number.
     pub time: u64,
+    /// The place of the room at which record 0 stands (document 02, Seven): below the size, and 0 before a reset.
+    pub start: usize,
 }
 
 impl State {
     /// How many numbers hold a state.
-    pub const NUMBERS: usize = 11;
+    pub const NUMBERS: usize = 12;
 
-    /// The state's numbers, in the order of `docs/DECISIONS.md`, point 21.
+    /// The state's numbers, in the order of `docs/DECISIONS.md`, point 21; the start is the last (`docs/MANUAL.md`, "State
+    /// and room").
     #[inline]
     pub fn store(&self, numbers: &mut [u64]) {
         numbers[..Self::NUMBERS].copy_from_slice(&[
@@ -51,6 +54,7 @@ impl State {
             u64::from(self.unknown),
             u64::from(self.halted),
             self.time,
+            self.start as u64,
         ]);
     }
 

@@ -1,45 +1,10 @@
 //! Document 01's rules by small examples: the marked cases P9 to P11, each refusal, and the easy errors; and document 02's
 //! rules on BRB IALL, on halts and on freezes.
 
+mod session;
+
 use model::{Answer, BranchType, Document01, Refusal, Rules, State};
-
-/// A state and a room, and the operations done to them.
-struct Session {
-    state: [u64; State::NUMBERS],
-    room: Vec<u64>,
-}
-
-impl Session {
-    fn fresh(room: usize) -> Session {
-        Session { state: [0; State::NUMBERS], room: vec![7; room] }
-    }
-
-    /// Operations in document 01's written form; the answer to the last.
-    fn run(&mut self, operations: &str) -> Answer {
-        let mut answer = Answer::Done;
-        for operation in operations.split('/') {
-            let mut numbers = [0; 6];
-            for (number, text) in numbers.iter_mut().zip(operation.split_whitespace()) {
-                *number = text.parse().unwrap();
-            }
-            answer = Document01.step(&mut self.state, &mut self.room, numbers);
-        }
-        answer
-    }
-
-    fn refused(&mut self, operations: &str, refusal: Refusal) {
-        let before = (self.state, self.room.clone());
-        assert_eq!(self.run(operations), Answer::Refused(refusal), "{operations}");
-        assert_eq!((self.state, self.room.clone()), before, "{operations}: a refusal leaves all untouched");
-    }
-
-    fn newest(&self) -> &[u64] {
-        &self.room[..3]
-    }
-}
-
-/// Recording and counting on at EL0 to EL2, then a return to EL1, which becomes no record since EL3 is not recorded.
-const AT_EL1: &str = "0 0 8 0 / 4 0 49 / 6 0 1 12582939 / 6 0 2 12582939 / 6 0 3 65536 / 3 0 1 0 1 2";
+use session::{Session, AT_EL1};
 
 fn recorded_types(filter: u64) -> Vec<u64> {
     let mut recorded = Vec::new();
@@ -66,7 +31,7 @@ fn marked_filter_words() {
 fn a_reset_zeroes_its_records_and_no_more() {
     let mut session = Session::fresh(30);
     assert_eq!(session.run("0 99 8 1 5 5"), Answer::Done);
-    assert_eq!(session.state, [3, 8, 1, 0, 0, 0, 0, 0, 1, 0, 0]);
+    assert_eq!(session.state, [3, 8, 1, 0, 0, 0, 0, 0, 1, 0, 0, 0]);
     assert_eq!(session.room[..24], [0; 24]);
     assert_eq!(session.room[24..], [7; 6]);
 }
@@ -106,10 +71,10 @@ fn levels_2_and_1_are_not_always_there() {
 
 #[test]
 fn unsound_states() {
-    let sound = [3, 8, 0, 0, 0, 0, 0, 1_048_576, 1, 1, u64::MAX];
+    let sound = [3, 8, 0, 0, 0, 0, 0, 1_048_576, 1, 1, u64::MAX, 7];
     let numbers = [(0, 4), (0, 2), (1, 9), (2, 2), (3, 128), (3, 1 << 14), (4, 4), (5, 1 << 24), (6, 1)];
     let mut room = [0; 24];
-    for (place, number) in numbers.into_iter().chain([(7, 1_048_577), (8, 2), (9, 2)]) {
+    for (place, number) in numbers.into_iter().chain([(7, 1_048_577), (8, 2), (9, 2), (11, 8)]) {
         let mut state = sound;
         state[place] = number;
         let answer = Document01.step(&mut state, &mut room, [11, 0, 0, 0, 0, 0]);
@@ -156,7 +121,7 @@ fn occasions_end_with_the_record() {
     assert_eq!(session.newest()[0], 1 << 46 | 1 << 6 | 3, "a write cleared PAUSED");
     session.run("7 600 / 1 3 0 1 0 0");
     assert_eq!(session.newest()[0], 1 << 46 | 1 << 6 | 1 << 5 | 3, "a BRB IALL was performed");
-    assert_eq!(session.room[3..24], [0; 21]);
+    assert_eq!((session.state[11], &session.room[..21]), (7, &[0; 21][..]));
     session.run("1 3 0 0 0 0");
     assert_eq!(session.newest()[0], 3 << 32 | 1 << 6 | 3, "the count after that one is known again");
 }
@@ -195,7 +160,7 @@ fn an_iall_that_is_not_performed_is_no_occasion() {
         assert_eq!(session.run("7 600"), answer);
         session.run("1 3 0 0 0 0");
         assert_eq!(session.newest()[0], 0x22D << 32 | level << 6 | 3, "{answer:?} at EL{level}");
-        assert_eq!(session.room[3..6], older);
+        assert_eq!(session.next(), older);
     }
 }
 
@@ -341,9 +306,9 @@ fn a_reset_ends_a_halt() {
     let mut session = Session::fresh(24);
     session.run(AT_EL1);
     session.run("8 0 4 / 0 0 8 1");
-    assert_eq!(session.state, [3, 8, 1, 0, 0, 0, 0, 0, 1, 0, 0]);
+    assert_eq!(session.state, [3, 8, 1, 0, 0, 0, 0, 0, 1, 0, 0, 0]);
     // A state of size 0 that is halted is sound, and takes nothing but a reset.
-    session.state = [0, 0, 0, 0, 0, 0, 0, 0, 0, 1, 0];
+    session.state = [0, 0, 0, 0, 0, 0, 0, 0, 0, 1, 0, 0];
     session.refused("9 0 4 1", Refusal::NotReset);
     assert_eq!(session.run("0 0 8 0"), Answer::Done);
     assert_eq!(session.state[9], 0);
@@ -375,7 +340,7 @@ fn which_time_a_freeze_keeps() {
         assert_eq!(session.run(&format!("10 40 {group} 1000 400 700")), Answer::Done);
         let time = times[ts2 as usize][ts1 as usize];
         // PAUSED and the time; its cycles count, and it is no occasion and no record.
-        assert_eq!(session.state, [1, 8, 0, 49, cr1, cr2, 0x1_0080, 40, 0, 0, time], "group {group}, {ts1}, {ts2}");
+        assert_eq!(session.state, [1, 8, 0, 49, cr1, cr2, 0x1_0080, 40, 0, 0, time, 7], "group {group}, {ts1}, {ts2}");
         assert_eq!(session.room, room);
     }
 }
@@ -482,7 +447,7 @@ fn nothing_is_recorded_until_paused_is_cleared() {
     assert_eq!((&session.room, session.state[0]), (&room, 1), "events happen, and are not recorded");
     session.run("6 1 3 65536 / 1 1 0 0 0 0");
     assert_eq!(session.newest()[0], 1 << 46 | 1 << 6 | 3, "unknown");
-    assert_eq!(session.room[3..6], room[..3], "behind it what was there before the freeze");
+    assert_eq!(session.next(), &room[18..21], "behind it what was there before the freeze");
     session.run("1 3 0 0 0 0");
     assert_eq!(session.newest()[0], 3 << 32 | 1 << 6 | 3, "the count after that one is known again");
     session.run("10 1 1 78 0 0 / 6 1 3 65536 / 1 1 0 0 0 0");
@@ -515,7 +480,7 @@ fn accesses_to_brbts_el1() {
         session.state[10] = 77;
         assert_eq!(session.run("5 1 4"), read, "P {platform:#x} at EL{level}");
         assert_eq!(session.run("6 1 4 5"), Answer::Undefined, "P {platform:#x} at EL{level}");
-        assert_eq!(session.state[7..], [2, 1, 0, 77], "both count, and change nothing");
+        assert_eq!(session.state[7..], [2, 1, 0, 77, 0], "both count, and change nothing");
     }
 }
 

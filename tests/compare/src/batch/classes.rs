@@ -18,6 +18,9 @@ const LAST: [&str; 4] = ["1 at the first operation", "1 later", "2 at the first 
 const EMPTY: [&str; 3] = ["with no answers lent", "with answers lent", "on an unsound state"];
 /// An unsound state, by the numbers that are lent for answers.
 const UNSOUND: [&str; 2] = ["with too few for the answers", "with enough for the answers"];
+/// What an operation of a batch makes of the start: a record below it or, from place 0, at the last place; a reset or a
+/// performed BRB IALL; and everything else.
+const STARTS: [&str; 4] = ["moved down", "gone round", "put to 0", "kept, not 0"];
 /// Runs with as many operations as their bytes can hold.
 const DENSEST: [&str; 4] = ["even, one too few", "even, exact", "odd, one too few", "odd, exact"];
 
@@ -38,6 +41,7 @@ pub struct Classes {
     empty: [u64; EMPTY.len()],
     unsound: [u64; UNSOUND.len()],
     densest: [u64; DENSEST.len()],
+    starts: [u64; STARTS.len()],
     ends: [[u64; LENT.len()]; ENDS.len()],
 }
 
@@ -68,6 +72,7 @@ impl Classes {
     fn note_answers(&mut self, singles: &Singles) {
         for (operation, &(number, _)) in singles.answers.iter().enumerate() {
             self.operated[place(&OPERATED, number)] += 1;
+            start_class(singles.newest[operation]).into_iter().for_each(|class| self.starts[class] += 1);
             if operation > 0 && MIDDLE.contains(&number) && accepted_after(singles, operation) {
                 self.middle[place(&MIDDLE, number)] += 1;
             }
@@ -93,12 +98,13 @@ impl Classes {
     }
 
     /// The groups whose classes have words for names.
-    fn worded(&self) -> [(&str, &[&str], &[u64]); 4] {
+    fn worded(&self) -> [(&str, &[&str], &[u64]); 5] {
         [
             ("ended by an operation", &LAST, &self.last),
             ("no bytes", &EMPTY, &self.empty),
             ("unsound states", &UNSOUND, &self.unsound),
             ("densest runs", &DENSEST, &self.densest),
+            ("starts", &STARTS, &self.starts),
         ]
     }
 }
@@ -106,6 +112,17 @@ impl Classes {
 /// Whether the numbers that are lent would be enough, if the state were sound.
 fn has_enough(batch: &Batch) -> bool {
     batch.answers >= 2 * Document01.answered_operations(&batch.bytes)
+}
+
+/// What became of a start: none where it was 0 and is 0.
+fn start_class([before, after]: [u64; 2]) -> Option<usize> {
+    match (before, after) {
+        (0, 0) => None,
+        (0, _) => Some(1),
+        _ if after == before => Some(3),
+        _ if after == before - 1 => Some(0),
+        _ => Some(2),
+    }
 }
 
 /// Whether an operation behind this one is accepted: a batch that ended here would not have come to it.

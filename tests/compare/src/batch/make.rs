@@ -3,14 +3,13 @@
 use crate::batch::ends::{self, Ends};
 use crate::batch::Batch;
 use crate::engine::Lent;
-use crate::generate::{self, Flavour, Generator};
+use crate::generate::{self, Flavour, Generator, SIZES};
 use crate::recording::{damage, Recording};
 use crate::shares::REASONS;
 use crate::{Call, Random, Sequence};
 use model::{own_fields, Batches, Document01, Rules, State};
 
-/// Sizes of buffers, and rooms that hold some of them.
-const SIZES: [u64; 4] = [8, 16, 32, 64];
+/// Rooms that hold some sizes.
 const ROOMS: [usize; 6] = [24, 47, 48, 95, 96, 191];
 /// What runs are mostly about: mistakes and accesses more often, since they have more outcomes.
 const FLAVOURS: [Flavour; 10] = [

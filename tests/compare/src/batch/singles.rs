@@ -11,6 +11,8 @@ pub struct Singles {
     pub answers: Vec<(u64, u64)>,
     /// Where each operation starts.
     pub starts: Vec<usize>,
+    /// The place of record 0 before each operation and after it.
+    pub newest: Vec<[u64; 2]>,
     lent: Lent,
 }
 
@@ -21,17 +23,19 @@ impl Singles {
         // At the end of the bytes a call reads nothing, and judges the state all the same.
         let ((at_the_end, _), _) = engine.step_recorded(&mut lent.state, &mut lent.room, bytes, bytes.len());
         let sound = at_the_end != 7;
-        let (mut answers, mut starts, mut at) = (Vec::new(), Vec::new(), 0);
+        let (mut answers, mut starts, mut newest, mut at) = (Vec::new(), Vec::new(), Vec::new(), 0);
         while sound && at < bytes.len() {
+            let before = lent.state[brb::STATE_START];
             let (answer, next) = engine.step_recorded(&mut lent.state, &mut lent.room, bytes, at);
             answers.push(answer);
             starts.push(at);
+            newest.push([before, lent.state[brb::STATE_START]]);
             if matches!(answer.0, 1 | 2) {
                 break;
             }
             at = next as usize;
         }
-        Singles { sound, answers, starts, lent }
+        Singles { sound, answers, starts, newest, lent }
     }
 
     /// What a batch has to answer and to leave, if it is these calls.

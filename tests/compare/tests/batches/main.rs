@@ -12,7 +12,7 @@ const ROUNDS: usize = 10_400;
 /// Fewer cases of a class than this prove nothing.
 const LEAST: u64 = 1_000;
 /// Groups of outcomes of single calls, which other tests meet.
-const NOT_HERE: [&str; 14] = [
+const NOT_HERE: [&str; 19] = [
     "answers",
     "events",
     "records",
@@ -27,6 +27,11 @@ const NOT_HERE: [&str; 14] = [
     "freezes that do not happen",
     "accesses to BRBTS_EL1",
     "while frozen",
+    "recorded events, by size and start",
+    "reads of records, by their places",
+    "what puts the start to 0",
+    "what keeps a start that is not 0",
+    "what 7 refuses by the start alone",
 ];
 
 const ENGINES: [&dyn Batching; 2] = [&Library, &Modelled(Document01)];

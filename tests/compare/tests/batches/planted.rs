@@ -169,6 +169,14 @@ planted! {
             }
         }
     })
+    ("a batch keeps the start that it began with", StartKept {
+        fn batch(&self, state: &mut [u64], room: &mut [u64], bytes: &[u8], answers: &mut [u64]) -> Done {
+            let start = state.get(11).copied();
+            let done = Document01.batch(state, room, bytes, answers);
+            start.into_iter().for_each(|start| state[11] = start);
+            done
+        }
+    })
     ("numbers past the answers are set to 0", PastTheAnswers {
         fn batch(&self, state: &mut [u64], room: &mut [u64], bytes: &[u8], answers: &mut [u64]) -> Done {
             let answered = Document01.batch(state, room, bytes, answers)?;
