@@ -18,7 +18,7 @@ use Rattle.room.specs.declared.Record.{Record}
 use Rattle.room.specs.declared.Effect.{Effect}
 use Rattle.room.specs.declared.Effect.the-variants.{Keep, Push, Clear, ResetTo}
 use Rattle.room.specs.Room.{zeroRecord, records, numbered, needed, roomAfter, startAfter}
-use Rattle.room.proofs.Laws.{sizeAfterEffect, length-records, records-pushed, records-cleared}
+use Rattle.room.proofs.Laws.{sizeAfterEffect, length-records, after-push, after-clear, after-reset}
 use Rattle.region.specs.Region.{prohibited}
 use Rattle.event.specs.declared.Event.{Event}
 use Rattle.event.specs.Event.{valid, recordOf, becomesRecord, eventEffect}
@@ -160,9 +160,9 @@ effect-records : (size start : ℕ) (e : Effect) (room : List ℕ) → ((new : R
     → records (sizeAfterEffect size e) (startAfter size start e) (roomAfter size start e room) ≡ recordsAfter size e (records size start room)
 unfolding roomAfter startAfter recordsAfter
 effect-records size start Keep room place enough = refl
-effect-records size start (Push new) room place enough = records-pushed size start new room (place new refl) enough
-effect-records size start Clear room place enough = records-cleared size room enough
-effect-records size start (ResetTo n) room place enough = records-cleared n room enough
+effect-records size start (Push new) room place enough = after-push size start new room (place new refl) enough
+effect-records size start Clear room place enough = after-clear size start room enough
+effect-records size start (ResetTo n) room place enough = after-reset size start n room enough
 
 -- After an accepted operation the records are exactly those that its effect makes of the records before it: the new record in
 -- front and the oldest lost, or the list unchanged, or all zero. Which of them, and every field of the new record, is

@@ -13,7 +13,7 @@ use Rattle.state.specs.declared.State.{State}
 use Rattle.state.specs.declared.Running.{Running}
 use Rattle.room.specs.declared.Effect.{Effect}
 use Rattle.room.specs.Room.{needed, inPlace, records, numbered, roomAfter, startAfter}
-use Rattle.room.proofs.Laws.{records-pushed, records-cleared}
+use Rattle.room.proofs.Laws.{after-push, after-clear, after-reset}
 use Rattle.operation.specs.declared.Operation.the-variants.{Reset}
 use Rattle.operation.specs.Clause.{changed}
 use Rattle.change.specs.Change.{passed, effectOf, runningAfter}
@@ -39,9 +39,9 @@ after-effect : {size start after now : ℕ} {notes : List Note} {e : Effect} (ro
 unfolding roomAfter startAfter
 after-effect room r keeps t h = (t, h)
 after-effect {size} {start} {now = now} {notes = notes} room r (pushes {new = new} place fits takes) t h =
-    (made takes t, rw (records-pushed size start new room place fits) (held-pushed (records size start room) notes (size - 1) now new h))
-after-effect {size} {notes = notes} room r (clears fits) t h = (t, rw (records-cleared size room fits) (held-cleared size notes))
-after-effect room r (resets-to {n = n} fits) t h = (began, rw (records-cleared n room fits) (held-cleared n []))
+    (made takes t, rw (after-push size start new room place fits) (held-pushed (records size start room) notes (size - 1) now new h))
+after-effect {size} {start} {notes = notes} room r (clears fits) t h = (t, rw (after-clear size start room fits) (held-cleared size notes))
+after-effect {size} {start} room r (resets-to {n = n} fits) t h = (began, rw (after-reset size start n room fits) (held-cleared n []))
 
 good-step : (x : Noted) (t : Timed) → Good x → Good (notedStep x t)
 unfolding notedStep stepped stepOf accepted passed
@@ -103,7 +103,7 @@ unfolding notedRun notedStep stepped stepOf accepted effectOf changed roomAfter 
 good (unset {list = list}) = good-run _ list (record { timely = began; held = held-cleared 0 [] })
 good (reset {m = m} {size = size} {v1p1 = v1p1} {list = list} e) =
     let room : needed size ≤ length (m .room) = accepts-if (m .state) (Reset size v1p1) (length (m .room)) e .room-enough in
-    good-run _ list (rw e (record { timely = began; held = rw (records-cleared size (m .room) room) (held-cleared size []) }))
+    good-run _ list (rw e (record { timely = began; held = rw (after-reset (m .state .size) (m .state .start) size (m .room) room) (held-cleared size []) }))
 
 pub plain : (m : Machine) (list : List Timed) → history m list .machine ≡ run m list
 plain m list = forgotten (record { machine = m; clock = 0; notes = [] }) list

@@ -13,7 +13,7 @@ use Rattle.room.specs.declared.Record.{Record}
 use Rattle.room.specs.declared.Effect.{Effect}
 use Rattle.room.specs.declared.Effect.the-variants.{Keep, Push, Clear, ResetTo}
 use Rattle.room.specs.Room.{zeroRecord, records, numbered, roomAfter, startAfter}
-use Rattle.room.proofs.Laws.{records-pushed, records-cleared}
+use Rattle.room.proofs.Laws.{after-push, after-clear, after-reset}
 use Rattle.operation.proofs.Laws.{accepts-if}
 use Rattle.change.specs.Change.{passed, effectOf}
 use Rattle.recorder.specs.Step.{accepted, stepOf}
@@ -42,9 +42,9 @@ module _ (m : Machine) (t : Timed) (old : List Note) (now : ℕ) (is : isAccepte
   unfolding roomAfter startAfter
   by-effect keeps e seen = same (rw (is, e)) (rw (is, e)) seen refl
   by-effect (pushes {new = new} place fits takes) e seen =
-      made is e (seen ∙ records-pushed (m .state .size) (m .state .start) new (m .room) place fits) refl
-  by-effect (clears fits) e seen = emptied (m .state .size) (seen ∙ records-cleared (m .state .size) (m .room) fits)
-  by-effect (resets-to {n = n} fits) e seen = emptied n (seen ∙ records-cleared n (m .room) fits)
+      made is e (seen ∙ after-push (m .state .size) (m .state .start) new (m .room) place fits) refl
+  by-effect (clears fits) e seen = emptied (m .state .size) (seen ∙ after-clear (m .state .size) (m .state .start) (m .room) fits)
+  by-effect (resets-to {n = n} fits) e seen = emptied n (seen ∙ after-reset (m .state .size) (m .state .start) n (m .room) fits)
 
 outcome : (x : Noted) (t : Timed) → Outcome (x .machine) t (x .notes) (notedStep x t .notes) (notedStep x t .clock)
 unfolding notedStep stepped stepOf accepted

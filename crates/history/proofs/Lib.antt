@@ -9,3 +9,4 @@ pub mod Frozen
 pub mod ClosedRun
 pub mod Sound
 pub mod Summed
+pub mod Plain

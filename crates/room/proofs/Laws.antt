@@ -17,7 +17,7 @@ use Rattle.bits.proofs.Each.{first, second}
 use Rattle.room.specs.declared.Record.{Record}
 use Rattle.room.specs.declared.Effect.{Effect}
 use Rattle.room.specs.declared.Effect.the-variants.{Keep, Push, Clear, ResetTo}
-use Rattle.room.specs.Room.{zeroRecord, placed, inPlace, records, numbered, needed, below, written, pushed, cleared, roomAfter}
+use Rattle.room.specs.Room.{zeroRecord, placed, inPlace, records, numbered, needed, below, written, pushed, cleared, roomAfter, startAfter}
 
 -- A third of the room is below a size exactly when the room is below what the size needs: a test that cannot overflow.
 pub third-below : (numbers size : ℕ) → ltb (numbers / 3) size ≡ ltb numbers (needed size)
@@ -26,7 +26,7 @@ third-below numbers size =
     (λ h. rw (le-ltb numbers (needed size) h) (le-ltb (numbers / 3) size (omega arith)))
     (below-or-not numbers (needed size))
 
-three : (n : ℕ) → needed (suc n) ≡ suc (suc (suc (needed n)))
+pub three : (n : ℕ) → needed (suc n) ≡ suc (suc (suc (needed n)))
 three n = omega arith
 
 length-places : (size : ℕ) (room : List ℕ) → length (inPlace size room) ≡ size
@@ -145,7 +145,7 @@ all-but-last size (suc p) list h e =
     rw (below-next size p, long, take-append-add front (take (suc p) list) p, take-take p (suc p) list (omega arith))
 
 -- A new record stands in front of the list, and the last one falls off.
-pub records-pushed : (size start : ℕ) (new : Record) (room : List ℕ) → start < size → needed size ≤ length room
+records-pushed : (size start : ℕ) (new : Record) (room : List ℕ) → start < size → needed size ≤ length room
     → records size (below size start) (pushed size start new room) ≡ new ∷ take (size - 1) (records size start room)
 unfolding records pushed
 records-pushed size start new room h fits =
@@ -157,15 +157,32 @@ records-pushed size start new room h fits =
 
 -- ---- no record
 
-places-zeros : (n : ℕ) (rest : List ℕ) → inPlace n (replicate (needed n) 0 ++ rest) ≡ replicate n zeroRecord
+pub places-zeros : (n : ℕ) (rest : List ℕ) → inPlace n (replicate (needed n) 0 ++ rest) ≡ replicate n zeroRecord
 unfolding inPlace
 places-zeros zero rest = refl
 places-zeros (suc n) rest = rw (three n) (ap (λ (l : List Record). zeroRecord ∷ l) (places-zeros n rest))
 
-pub records-cleared : (size : ℕ) (room : List ℕ) → needed size ≤ length room → records size 0 (cleared size room) ≡ replicate size zeroRecord
+records-cleared : (size : ℕ) (room : List ℕ) → needed size ≤ length room → records size 0 (cleared size room) ≡ replicate size zeroRecord
 unfolding records cleared
 records-cleared size room fits =
     rw (le-leb (needed size) (length room) fits, places-zeros size (drop (needed size) room)) (append-nil (replicate size zeroRecord))
+
+-- ---- the list after an effect: a new record stands in front and the oldest is gone, or every record is zero
+
+pub after-push : (size start : ℕ) (new : Record) (room : List ℕ) → start < size → needed size ≤ length room
+    → records size (startAfter size start (Push new)) (roomAfter size start (Push new) room) ≡ new ∷ take (size - 1) (records size start room)
+unfolding roomAfter startAfter
+after-push size start new room h fits = records-pushed size start new room h fits
+
+pub after-clear : (size start : ℕ) (room : List ℕ) → needed size ≤ length room
+    → records size (startAfter size start Clear) (roomAfter size start Clear room) ≡ replicate size zeroRecord
+unfolding roomAfter startAfter
+after-clear size start room fits = records-cleared size room fits
+
+pub after-reset : (size start n : ℕ) (room : List ℕ) → needed n ≤ length room
+    → records n (startAfter size start (ResetTo n)) (roomAfter size start (ResetTo n) room) ≡ replicate n zeroRecord
+unfolding roomAfter startAfter
+after-reset size start n room fits = records-cleared n room fits
 
 -- ---- the room's other numbers
 

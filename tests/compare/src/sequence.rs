@@ -1,4 +1,5 @@
 use crate::engine::Lent;
+use crate::generate::SIZES;
 use crate::shrink::{smaller, with_part_dropped};
 use crate::{Call, Case, Engine};
 use std::fmt;
@@ -35,6 +36,62 @@ impl Sequence {
         let cycles = &mut merged.calls[place - 1].0[1];
         *cycles = cycles.saturating_add(dropped.cycles());
         merged
+    }
+
+    /// The same without as many operations as a buffer has places: where all of them are records, each place is as it was.
+    fn without_a_round(&self) -> impl Iterator<Item = Sequence> + '_ {
+        SIZES.into_iter().map(|size| size as usize).flat_map(move |size| {
+            let firsts = 0..(self.calls.len() + 1).saturating_sub(size);
+            firsts.map(move |first| {
+                let calls = [&self.calls[..first], &self.calls[first + size..]].concat();
+                Sequence { calls, ..*self }
+            })
+        })
+    }
+
+    /// The register of a record that the last operation reads.
+    fn last_read(&self) -> Option<u64> {
+        match self.calls.last()?.0 {
+            [5, _, register @ 32..=127, ..] => Some(register),
+            _ => None,
+        }
+    }
+
+    /// The same, with another register that the last operation reads.
+    fn reading(mut self, register: u64) -> Sequence {
+        self.calls.last_mut().expect("an operation that reads").0[2] = register;
+        self
+    }
+
+    /// The same without one operation, where the last one reads a record: that of one number less, or of one more. Without a
+    /// record each older one has one number less, and the start is one place higher.
+    fn renumbered(&self) -> impl Iterator<Item = Sequence> + '_ {
+        let places = 0..self.calls.len().saturating_sub(1);
+        self.last_read().into_iter().flat_map(move |register| {
+            places.clone().flat_map(move |place| {
+                let near = [register - 1, register + 1].into_iter().filter(move |near| near / 32 == register / 32);
+                near.map(move |near| {
+                    let mut shorter = self.clone();
+                    shorter.calls.remove(place);
+                    shorter.reading(near)
+                })
+            })
+        })
+    }
+
+    /// The same with a reset to a smaller size, where the last one reads a record: any that this size has in the first bank.
+    fn resized(&self) -> impl Iterator<Item = Sequence> + '_ {
+        let resets = self.calls.iter().enumerate().filter(|(_, call)| call.code() == 0);
+        self.last_read().into_iter().flat_map(move |register| {
+            resets.clone().flat_map(move |(place, call)| {
+                let sizes = SIZES.into_iter().filter(|&size| size < call.0[2]);
+                sizes.flat_map(move |size| (0..size.min(32)).map(move |m| (size, m))).map(move |(size, m)| {
+                    let mut smaller = self.clone();
+                    smaller.calls[place].0[2] = size;
+                    smaller.reading(register / 32 * 32 + m)
+                })
+            })
+        })
     }
 }
 
@@ -85,7 +142,8 @@ impl Case for Sequence {
                 })
             })
         });
-        Box::new(shorter.chain(merged).chain(narrower).chain(plainer))
+        let shorter = shorter.chain(merged).chain(self.without_a_round()).chain(self.renumbered());
+        Box::new(shorter.chain(self.resized()).chain(narrower).chain(plainer))
     }
 }
 

@@ -218,12 +218,14 @@ const NOT_IN_SEQUENCES: [&str; 6] = [
     "a state of eleven numbers is enough",
 ];
 
-/// What shows no sooner than where records stand at nearly every place, so that its case cannot be as short.
-const AFTER_A_ROUND: [&str; 4] = [
+/// What shows no sooner than where records stand at nearly every place, or does so in a room that has no number past them, so
+/// that its case may not be as short.
+const AFTER_A_ROUND: [&str; 5] = [
     "a new record goes round at start 1",
     "a new record clears the place below it",
     "BRB IALL clears no place before the start",
     "reads go round one place late",
+    "reads go round at 64",
 ];
 
 /// The planted errors, of these words or of all others.
