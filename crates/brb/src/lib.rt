@@ -94,7 +94,13 @@ pub extern "C" fn brb_bank_inf(room: &[u64], size: u64, start: u64, bank: u64, m
 
 // BRBSRC of register m, as one bank of a room shows it.
 #[no_mangle]
-pub extern "C" fn brb_bank_source(room: &[u64], size: u64, start: u64, bank: u64, m: u64) -> Returned
+pub extern "C" fn brb_bank_source(
+    room: &[u64],
+    size: u64,
+    start: u64,
+    bank: u64,
+    m: u64,
+) -> Returned
     ensures { λ r. ⌜ r ≡ returned (bankShows (λ x. x .source) size start bank m (now (room .entry))) ⌝ }
 {
     let shown = bank_source(room, size, start, bank, m);
@@ -103,7 +109,13 @@ pub extern "C" fn brb_bank_source(room: &[u64], size: u64, start: u64, bank: u64
 
 // BRBTGT of register m, as one bank of a room shows it.
 #[no_mangle]
-pub extern "C" fn brb_bank_target(room: &[u64], size: u64, start: u64, bank: u64, m: u64) -> Returned
+pub extern "C" fn brb_bank_target(
+    room: &[u64],
+    size: u64,
+    start: u64,
+    bank: u64,
+    m: u64,
+) -> Returned
     ensures { λ r. ⌜ r ≡ returned (bankShows (λ x. x .target) size start bank m (now (room .entry))) ⌝ }
 {
     let shown = bank_target(room, size, start, bank, m);

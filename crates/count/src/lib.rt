@@ -2,7 +2,6 @@
 // spread of a count"; BRBINF<n>_EL1.CC).
 ghost use mathlib.Core.Path.{_≡_};
 ghost use Rattle.count.specs.Count.{encoded, decoded, fromTo, atLeast, refusedWith, spreadOf};
-
 use bits::pick;
 
 // What a CC value says of the count.

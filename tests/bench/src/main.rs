@@ -1,6 +1,6 @@
-//! The proved library beside the Rust model, which does the same checks on the same lent numbers and moves its records the
-//! same way: the time of a recorded branch by single calls and in batches, and that of a replay. Reading alone is timed beside a
-//! reader in C.
+//! The proved library beside the Rust model, which does the same checks on the same lent numbers, rule by rule, with the same round
+//! buffer: the time of a recorded branch by single calls and in batches, and that of a replay. Single calls are timed beside a tight
+//! program in Rust too, and reading alone beside a reader in C.
 
 mod batch;
 mod branches;
@@ -12,24 +12,26 @@ use std::path::PathBuf;
 use std::process::ExitCode;
 
 const USAGE: &str = "\
-Times the proved library: recorded branches by single calls and in batches, and the
-replay program, if it is built, on files of 1000000 operations, beside the Rust model;
-reading a recording's operations beside a reader in C.
+Times the proved library: recorded branches by single calls, beside the Rust model and
+a tight program in Rust; recorded branches in batches, and the replay program, if it is
+built, on files of 1000000 operations, beside the model; reading a recording's
+operations beside a reader in C.
 
-usage: bench [--operations N] [--rounds N] [--quick] [--batch | --read | --replay]
-             [--program FILE]
+usage: bench [--operations N] [--rounds N] [--quick] [--program FILE]
+             [--step | --batch | --read | --replay]
 
   --operations N   operations a round (default 1000000)
   --rounds N       rounds, of which the medians count (default 15)
   --quick          200000 operations, 10000 in batches, 5 rounds
+  --step           the single calls alone
   --batch          the batches alone
   --read           the reading alone
   --replay         the replay alone
   --program FILE   the replay program (default target/bin/replay)
   --help           this text
 
-A line a buffer size: nanoseconds an operation of both, and their ratio. Then the
-batches: nanoseconds an operation of brb_batch, of as many calls of
+A line a buffer size: nanoseconds an operation of each, and the library's ratio to the
+model and to the tight program. Then the batches: nanoseconds an operation of brb_batch, of as many calls of
 brb_step_recorded and of brb_step, and of the model's batch, and brb_batch's ratio
 to each. Then brb_recording_read's nanoseconds an operation and the C reader's. Then
 the replay's milliseconds and the model's, and the program's peak memory.";
@@ -44,6 +46,7 @@ fn median(times: impl Iterator<Item = f64>) -> f64 {
 #[derive(Clone, Copy, PartialEq, Eq)]
 enum Part {
     All,
+    Steps,
     Batches,
     Read,
     Replay,
@@ -74,6 +77,10 @@ fn options(mut arguments: impl Iterator<Item = String>) -> Result<Option<Options
             "--help" | "-h" => return Ok(None),
             "--quick" => {
                 options = Options { operations: 200_000, in_batches: 10_000, rounds: 5, ..options };
+                continue;
+            }
+            "--step" => {
+                options.part = Part::Steps;
                 continue;
             }
             "--batch" => {
@@ -108,7 +115,7 @@ fn options(mut arguments: impl Iterator<Item = String>) -> Result<Option<Options
 
 fn report(options: &Options) -> ExitCode {
     let asked = |part: Part| options.part == Part::All || options.part == part;
-    if options.part == Part::All {
+    if asked(Part::Steps) {
         branches::report(options);
     }
     if asked(Part::Batches) {

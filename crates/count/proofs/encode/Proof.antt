@@ -75,7 +75,7 @@ encode-spec =
     (λ c. omega (arith, told c))
     (λ c. omega (arith, told c))
     (λ c. search needs)
-    (λ c. least c)
+    (λ c. omega (arith, least c))
     (λ c. omega (arith, told c))
     (λ c. omega (arith, fits c))
     (λ _ _. tt)
