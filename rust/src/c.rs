@@ -29,30 +29,9 @@ extern "C" {
     pub fn brb_count_encode(count: u64) -> u64;
     pub fn brb_count_decode(cc: u64) -> Spread;
     pub fn brb_count_sum(cc: *const u64, count: usize) -> Spread;
-    pub fn brb_bank_inf(
-        room: *const u64,
-        room_numbers: usize,
-        size: u64,
-        start: u64,
-        bank: u64,
-        m: u64,
-    ) -> Answer;
-    pub fn brb_bank_source(
-        room: *const u64,
-        room_numbers: usize,
-        size: u64,
-        start: u64,
-        bank: u64,
-        m: u64,
-    ) -> Answer;
-    pub fn brb_bank_target(
-        room: *const u64,
-        room_numbers: usize,
-        size: u64,
-        start: u64,
-        bank: u64,
-        m: u64,
-    ) -> Answer;
+    pub fn brb_bank_inf(room: *const u64, room_numbers: usize, size: u64, start: u64, bank: u64, m: u64) -> Answer;
+    pub fn brb_bank_source(room: *const u64, room_numbers: usize, size: u64, start: u64, bank: u64, m: u64) -> Answer;
+    pub fn brb_bank_target(room: *const u64, room_numbers: usize, size: u64, start: u64, bank: u64, m: u64) -> Answer;
     pub fn brb_recording_read(
         bytes: *const u8,
         length: usize,

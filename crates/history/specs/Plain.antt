@@ -27,10 +27,11 @@ plainAfter size (Push new) room = shifted size new room
 plainAfter size Clear room = cleared size room
 plainAfter size (ResetTo n) room = cleared n room
 
--- A plain room beside a machine, after one operation of the machine, and after one operation after another.
+-- A plain room beside a machine, after one operation of the machine; a refused one leaves it as it was.
 unfoldable pub plainStepped : Machine → List ℕ → Timed → List ℕ
 plainStepped m plain t = cond (isAccepted m t) (plainAfter (m .state .size) (effectIn m t) plain) plain
 
+-- The same after one operation after another.
 unfoldable pub plainRun : Machine → List ℕ → List Timed → List ℕ
 plainRun m plain [] = plain
 plainRun m plain (t ∷ list) = plainRun (stepped m t) (plainStepped m plain t) list

@@ -12,6 +12,7 @@ ghost use Rattle.operation.specs.Operation.{operationOf, codeOf};
 ghost use Rattle.operation.specs.Clause.{changed};
 ghost use Rattle.operation.specs.Refusal.{unknownCode, notReset, outsideList, wrongHalted, wrongLevel, roomTooShort, firstThat, refusalOf};
 use access::is_register;
+use bits::pick;
 use filter::BranchType;
 use filter::is_exception_type;
 use state::PLATFORM_MASK;
@@ -140,39 +141,31 @@ fn code_of(o: Operation) -> u64
     }
 }
 
-// Which of refusals 4, 8 and 5 have their condition met: a number of the operation is outside its list; nothing runs while the
+// The first of refusals 4, 8 and 5 whose condition is met, or 0: a number of the operation is outside its list; nothing runs while the
 // processor is halted, and only a halted one resumes; the level does not let the operation happen.
-struct Judged {
-    outside: bool,
-    halted: bool,
-    level: bool,
-}
-
-fn conditions(outside: bool, halted: bool, level: bool) -> Judged
-    ensures { λ r. ⌜ r ≡ record { outside = outside; halted = halted; level = level } ⌝ }
+fn first_of(outside: bool, halted: bool, level: bool) -> u64
+    ensures { λ r. ⌜ r ≡ firstThat ((4, outside) ∷ (8, halted) ∷ (5, level) ∷ []) ⌝ }
 {
-    Judged {
-        outside,
-        halted,
-        level,
-    }
+    let by_level = pick(level, 5, 0);
+    let by_halted = pick(halted, 8, by_level);
+    pick(outside, 4, by_halted)
 }
 
 // A branch: its type and its flag are looked at, and it needs a processor that runs.
-fn judge_branch(s: State, kind: u64, mispredicted: u64) -> Judged
-    ensures { λ r. ⌜ r ≡ record { outside = not (oneOf branchTypes kind) || ltb 1 mispredicted; halted = isHalted s; level = false } ⌝ }
+fn judge_branch(s: State, kind: u64, mispredicted: u64) -> u64
+    ensures { λ r. ⌜ r ≡ firstThat ((4, not (oneOf branchTypes kind) || ltb 1 mispredicted) ∷ (8, isHalted s) ∷ (5, false) ∷ []) ⌝ }
 {
     let t = BranchType { code: kind };
-    conditions(!t.listed() | (1 < mispredicted), s.halted == 1, false)
+    first_of(!t.listed() | (1 < mispredicted), s.halted == 1, false)
 }
 
 // An exception goes neither down nor to EL0.
-fn judge_exception(s: State, kind: u64, level: u64) -> Judged
-    ensures { λ r. ⌜ r ≡ record { outside = not (oneOf exceptionTypes kind) || ltb 3 level; halted = isHalted s; level = ltb level (s .level) || eqb level 0 || unavailable s level } ⌝ }
+fn judge_exception(s: State, kind: u64, level: u64) -> u64
+    ensures { λ r. ⌜ r ≡ firstThat ((4, not (oneOf exceptionTypes kind) || ltb 3 level) ∷ (8, isHalted s) ∷ (5, ltb level (s .level) || eqb level 0 || unavailable s level) ∷ []) ⌝ }
 {
     let listed = is_exception_type(kind);
     let unavailable = s.unavailable(level);
-    conditions(
+    first_of(
         !listed | (3 < level),
         s.halted == 1,
         (level < s.level) | (level == 0) | unavailable,
@@ -180,23 +173,23 @@ fn judge_exception(s: State, kind: u64, level: u64) -> Judged
 }
 
 // A return does not come from EL0 and does not go up.
-fn judge_return(s: State, level: u64, mispredicted: u64) -> Judged
-    ensures { λ r. ⌜ r ≡ record { outside = ltb 3 level || ltb 1 mispredicted; halted = isHalted s; level = eqb (s .level) 0 || ltb (s .level) level || unavailable s level } ⌝ }
+fn judge_return(s: State, level: u64, mispredicted: u64) -> u64
+    ensures { λ r. ⌜ r ≡ firstThat ((4, ltb 3 level || ltb 1 mispredicted) ∷ (8, isHalted s) ∷ (5, eqb (s .level) 0 || ltb (s .level) level || unavailable s level) ∷ []) ⌝ }
 {
     let unavailable = s.unavailable(level);
-    conditions(
+    first_of(
         (3 < level) | (1 < mispredicted),
         s.halted == 1,
         (s.level == 0) | (s.level < level) | unavailable,
     )
 }
 
-// An operation's conditions, one line each.
-fn judge(s: State, o: Operation) -> Judged
-    ensures { λ r. ⌜ r ≡ record { outside = outsideList o; halted = wrongHalted s o; level = wrongLevel s o } ⌝ }
+// The first of an operation's three, one line each.
+fn judge(s: State, o: Operation) -> u64
+    ensures { λ r. ⌜ r ≡ firstThat ((4, outsideList o) ∷ (8, wrongHalted s o) ∷ (5, wrongLevel s o) ∷ []) ⌝ }
 {
     match o {
-        Operation::Reset { size, v1p1 } => conditions(!is_size(size) | (1 < v1p1), false, false),
+        Operation::Reset { size, v1p1 } => first_of(!is_size(size) | (1 < v1p1), false, false),
         Operation::Branch {
             kind,
             mispredicted,
@@ -212,18 +205,18 @@ fn judge(s: State, o: Operation) -> Judged
             mispredicted,
             ..
         } => judge_return(s, target_level, mispredicted),
-        Operation::Platform { p } => conditions(!(p & PLATFORM_MASK == p), false, !(s.level == 3)),
-        Operation::Read { register } => conditions(!is_register(register), false, false),
-        Operation::Write { register, .. } => conditions(!is_register(register), false, false),
-        Operation::Iall => conditions(false, false, false),
-        Operation::Halt { .. } => conditions(false, s.halted == 1, false),
-        Operation::Resume { target_level, .. } => conditions(
+        Operation::Platform { p } => first_of(!(p & PLATFORM_MASK == p), false, !(s.level == 3)),
+        Operation::Read { register } => first_of(!is_register(register), false, false),
+        Operation::Write { register, .. } => first_of(!is_register(register), false, false),
+        Operation::Iall => first_of(false, false, false),
+        Operation::Halt { .. } => first_of(false, s.halted == 1, false),
+        Operation::Resume { target_level, .. } => first_of(
             3 < target_level,
             !(s.halted == 1),
             s.unavailable(target_level),
         ),
-        Operation::Freeze { group, .. } => conditions(1 < group, false, false),
-        Operation::Unknown => conditions(false, false, false),
+        Operation::Freeze { group, .. } => first_of(1 < group, false, false),
+        Operation::Unknown => first_of(false, false, false),
     }
 }
 
@@ -276,15 +269,9 @@ fn room_too_short(s: State, o: Operation, room: usize) -> bool
 fn content_refusal(s: State, o: Operation, room: usize) -> u64
     ensures { λ r. ⌜ r ≡ firstThat ((4, outsideList o) ∷ (8, wrongHalted s o) ∷ (5, wrongLevel s o) ∷ (6, roomTooShort s o room) ∷ []) ⌝ }
 {
-    let judged = judge(s, o);
-    if judged.outside {
-        return 4;
-    }
-    if judged.halted {
-        return 8;
-    }
-    if judged.level {
-        return 5;
+    let first = judge(s, o);
+    if first != 0 {
+        return first;
     }
     if room_too_short(s, o, room) {
         return 6;

@@ -1,12 +1,12 @@
-//! The time of recorded branches in batches (document 02, Two), beside as many single calls of both kinds and beside the
-//! model's batch.
+//! The time of recorded branches in batches (document 02, Two), beside as many single calls of both kinds, beside the
+//! model's batch and beside a tight one in Rust.
 //!
 //! All of them start from the same state and room and take turns, a batch each, of which the median counts; who is first
 //! changes with each batch, since the first finds the bytes less near. Every answer is looked at, and what they leave is
 //! compared after each round. The library's calls go straight to the archive, as a C host's do.
 
 use crate::branches::{self, Lent, Numbers};
-use crate::{median, Options};
+use crate::{median, tight, Options};
 use model::{Batches, Document01, Recordings, Rules};
 use std::hint::black_box;
 use std::time::Instant;
@@ -66,6 +66,12 @@ fn modelled(lent: &mut Lent, run: &Run, answers: &mut [u64]) -> usize {
     answered.map_or(0, |operations| done(0, operations, answers))
 }
 
+#[inline(never)]
+fn tightly(lent: &mut Lent, run: &Run, answers: &mut [u64]) -> usize {
+    let (number, operations) = tight::batch(&mut lent.state, &mut lent.room, black_box(&run.bytes), answers);
+    done(number, operations as usize, answers)
+}
+
 /// How many of a batch's answers are 0 and 0.
 fn done(number: u64, operations: usize, answers: &[u64]) -> usize {
     let answers = &black_box(answers)[..brb::ANSWER_NUMBERS * operations];
@@ -98,14 +104,16 @@ fn steps(lent: &mut Lent, run: &Run, _: &mut [u64]) -> usize {
     done
 }
 
-/// What is timed, by the function and the numbers that it has for answers. The last two are batches with just enough.
-const SIDES: [(Done, fn(&Run) -> usize); 6] = [
+/// What is timed, by the function and the numbers that it has for answers. The last three are batches with just enough.
+const SIDES: [(Done, fn(&Run) -> usize); 8] = [
     (batch, Run::enough),
     (recorded_steps, |_| 0),
     (steps, |_| 0),
     (modelled, Run::enough),
+    (tightly, Run::enough),
     (batch, Run::exact),
     (modelled, Run::exact),
+    (tightly, Run::exact),
 ];
 type Times = [f64; SIDES.len()];
 
@@ -145,13 +153,14 @@ fn measure(size: u64, runs: &[Run], options: &Options) -> Vec<Times> {
     rounds.skip(1).collect()
 }
 
-/// A line: a batch, single calls of both kinds and the model's batch, by their places, and the batch's ratios to them.
-fn print_line(rounds: &[Times], answers: &str, [batch, others @ ..]: [usize; 4]) {
+/// A line: a batch, single calls of both kinds and the batches of the model and of the tight program, by their places, and the
+/// batch's ratios to them.
+fn print_line(rounds: &[Times], answers: &str, [batch, others @ ..]: [usize; 5]) {
     let time = |side: usize| median(rounds.iter().map(|times| times[side]));
-    let [recorded, step, model] = others.map(time);
+    let [recorded, step, model, tight] = others.map(time);
     let ratios = others.map(|other| median(rounds.iter().map(|times| times[batch] / times[other])));
-    print!("    {answers:<18}{:6.1} ns{recorded:10.1} ns{step:6.1} ns{model:8.1} ns", time(batch));
-    println!("{:12.2}{:8.2}{:8.2}", ratios[0], ratios[1], ratios[2]);
+    print!("    {answers:<18}{:6.1} ns{recorded:10.1} ns{step:6.1} ns{model:8.1} ns{tight:7.1} ns", time(batch));
+    println!("{:12.2}{:8.2}{:8.2}{:8.2}", ratios[0], ratios[1], ratios[2], ratios[3]);
 }
 
 /// Two lines a kind of branches and a buffer size.
@@ -166,11 +175,11 @@ pub fn report(options: &Options) {
             let rounds = measure(size, &runs, options);
             println!("  {kind}, size {size}:");
             println!(
-                "    {:<18}{:>9}{:>13}{:>9}{:>11}   batch / recorded, step, model",
-                "answers", "batch", "recorded", "step", "model"
+                "    {:<18}{:>9}{:>13}{:>9}{:>11}{:>10}   batch / recorded, step, model, tight",
+                "answers", "batch", "recorded", "step", "model", "tight"
             );
-            print_line(&rounds, "enough", [0, 1, 2, 3]);
-            print_line(&rounds, "two an operation", [4, 1, 2, 5]);
+            print_line(&rounds, "enough", [0, 1, 2, 3, 4]);
+            print_line(&rounds, "two an operation", [5, 1, 2, 6, 7]);
         }
     }
 }

@@ -1,7 +1,8 @@
-//! A step in plain Rust, as tight as we can write it for a taken branch: one function, with the library's checks of the state, the
-//! code, the fields and the room, on the same lent numbers and with the same round buffer. It says how near the library comes to
-//! what can be had. Operations other than branches, which are not timed, it hands to the model. It is no judge of what is right:
-//! what it leaves is compared with what the library leaves.
+//! A step and a batch in plain Rust, as tight as we can write them for taken branches. The step is one function, with the library's
+//! checks of the state, the code, the fields and the room, on the same lent numbers and with the same round buffer; the batch reads
+//! a run with the library's checks and steps along it. They say how near the library comes to what can be had. Operations other than
+//! branches, which are not timed, go to the model. Neither is a judge of what is right: what they leave is compared with what the
+//! library leaves.
 
 use crate::branches::Numbers;
 use model::{Document01, Rules};
@@ -97,4 +98,78 @@ pub fn step(state: &mut [u64], room: &mut [u64], numbers: Numbers) -> (u64, u64)
     state[brb::STATE_UNKNOWN] = 0;
     state[brb::STATE_START] = place;
     (0, 0)
+}
+
+/// A number of a recording and the place after it; none where it is malformed.
+#[inline(always)]
+fn number_at(bytes: &[u8], at: usize) -> Option<(u64, usize)> {
+    let first = *bytes.get(at)?;
+    if first < 0x80 {
+        return Some((u64::from(first), at + 1));
+    }
+    let (mut number, mut next) = (u64::from(first & 0x7F), at + 1);
+    for shift in (7..63).step_by(7) {
+        let byte = *bytes.get(next)?;
+        next += 1;
+        number |= u64::from(byte & 0x7F) << shift;
+        if byte < 0x80 {
+            return (byte != 0).then_some((number, next));
+        }
+    }
+    (*bytes.get(next)? == 1).then_some((number | 1 << 63, next + 1))
+}
+
+/// How many fields the operation of each code has.
+const FIELDS: [u8; 11] = [2, 4, 4, 4, 1, 1, 2, 0, 1, 2, 4];
+
+/// The operation at a place and the place after it; or the number of the refusal that ends the run there.
+#[inline(always)]
+fn operation_at(bytes: &[u8], at: usize) -> Result<(Numbers, usize), u64> {
+    let (code, at) = number_at(bytes, at).ok_or(1_u64)?;
+    let &fields = FIELDS.get(code as usize).ok_or(2_u64)?;
+    let mut numbers = [code, 0, 0, 0, 0, 0];
+    let mut next = at;
+    for number in &mut numbers[1..2 + usize::from(fields)] {
+        (*number, next) = number_at(bytes, next).ok_or(1_u64)?;
+    }
+    Ok((numbers, next))
+}
+
+/// How many operations a run has, the one that ends it too.
+fn operations(bytes: &[u8]) -> usize {
+    let (mut at, mut count) = (0, 0);
+    while at < bytes.len() {
+        count += 1;
+        at = operation_at(bytes, at).map_or(bytes.len(), |(_, next)| next);
+    }
+    count
+}
+
+/// A run of recorded operations. An unsound state, which the model judges for all of them at once, is 7.
+#[inline(never)]
+pub fn batch(state: &mut [u64], room: &mut [u64], bytes: &[u8], answers: &mut [u64]) -> (u64, u64) {
+    if Document01.sound(state).is_none() {
+        return (7, 0);
+    }
+    if answers.len() <= bytes.len() && answers.len() < brb::ANSWER_NUMBERS * operations(bytes) {
+        return (6, 0);
+    }
+    let (mut at, mut count) = (0, 0);
+    let mut places = answers.chunks_exact_mut(brb::ANSWER_NUMBERS);
+    while at < bytes.len() {
+        let Some(place) = places.next() else { break };
+        let answer = match operation_at(bytes, at) {
+            Ok((numbers, next)) => {
+                at = next;
+                step(state, room, numbers)
+            }
+            Err(number) => {
+                at = bytes.len();
+                (number, 0)
+            }
+        };
+        (place[0], place[1]) = answer;
+        count += 1;
+    }
+    (0, count)
 }
