@@ -4,11 +4,11 @@ ghost use mathlib.Core.Path.{_≡_};
 ghost use mathlib.Core.Bool.{cond};
 ghost use lib.Dec.{eqb};
 ghost use Rattle.state.specs.Named.{EL3RecordingEnabled};
-ghost use Rattle.event.specs.Event.{controlled, valid, countUnknown, MPRED, packed, BRBINF, recordOf, becomesRecord};
+ghost use Rattle.event.specs.Event.{controlled, countUnknown, packed};
+ghost use Rattle.event.specs.Hidden.{validBy, MPREDBy, BRBINFBy, recordBy, becomesBy};
 use bits::pick;
 use bits::pick_bool;
 use count::encode;
-use region::prohibited;
 use room::Record;
 use state::Running;
 use state::State;
@@ -77,11 +77,9 @@ pub fn return_controlled(s: State) -> bool
 }
 
 // VALID: half-target 1, half-source 2, full 3, and 0 where both sides are prohibited.
-fn valid(s: State, e: Event) -> u64
-    ensures { λ x. ⌜ x ≡ valid s e ⌝ }
+fn valid(source: bool, target: bool) -> u64
+    ensures { λ x. ⌜ x ≡ validBy source target ⌝ }
 {
-    let source = prohibited(s, e.left);
-    let target = prohibited(s, e.entered);
     let hidden = pick(target, 0, 1);
     let shown = pick(target, 2, 3);
     pick(source, hidden, shown)
@@ -94,13 +92,12 @@ fn count_unknown(s: State, r: Running) -> bool
     (r.unknown == 1) | !counting
 }
 
-fn mpred(s: State, e: Event) -> u64
-    ensures { λ x. ⌜ x ≡ MPRED s e ⌝ }
+fn mpred(s: State, e: Event, source: bool) -> u64
+    ensures { λ x. ⌜ x ≡ MPREDBy source s e ⌝ }
 {
     let shown = s.prediction_shown();
-    let hidden = prohibited(s, e.left);
     let flag = pick(shown, e.mispredicted, 0);
-    pick(hidden, 0, flag)
+    pick(source, 0, flag)
 }
 
 // BRBINF's fields in their places.
@@ -116,34 +113,34 @@ fn packed(ccu: u64, cc: u64, kind: u64, level: u64, mpred: u64, valid: u64) -> u
 }
 
 // BRBINF of an event that takes the running count as it is with the event's cycles in it.
-fn brbinf(s: State, r: Running, e: Event) -> u64
-    ensures { λ x. ⌜ x ≡ BRBINF s r e ⌝ }
+fn brbinf(s: State, r: Running, e: Event, source: bool, target: bool) -> u64
+    ensures { λ x. ⌜ x ≡ BRBINFBy source target s r e ⌝ }
 {
     let unknown = count_unknown(s, r);
     let ccu = pick(unknown, 1, 0);
     let cc = pick(unknown, 0, encode(r.count));
-    let level = pick(prohibited(s, e.entered), 0, e.entered);
-    let mispredicted = mpred(s, e);
-    let valid = valid(s, e);
+    let level = pick(target, 0, e.entered);
+    let mispredicted = mpred(s, e, source);
+    let valid = valid(source, target);
     packed(ccu, cc, e.kind, level, mispredicted, valid)
 }
 
-// The record of an event: 0 stands for the address of a prohibited side.
-pub fn record_of(s: State, r: Running, e: Event) -> Record
-    ensures { λ x. ⌜ x ≡ recordOf s r e ⌝ }
+// The record of an event: 0 stands for the address of a prohibited side. `source` and `target` say which sides are.
+pub fn record_of(s: State, r: Running, e: Event, source: bool, target: bool) -> Record
+    ensures { λ x. ⌜ x ≡ recordBy source target s r e ⌝ }
 {
     Record {
-        inf: brbinf(s, r, e),
-        source: pick(prohibited(s, e.left), 0, e.source),
-        target: pick(prohibited(s, e.entered), 0, e.target),
+        inf: brbinf(s, r, e, source, target),
+        source: pick(source, 0, e.source),
+        target: pick(target, 0, e.target),
     }
 }
 
-// The event becomes a record, where `wanted` is what its filter or control says.
-pub fn becomes_record(s: State, wanted: bool, e: Event) -> bool
-    ensures { λ x. ⌜ x ≡ becomesRecord s wanted e ⌝ }
+// An event with these prohibited sides becomes a record, where `wanted` is what its filter or control says.
+pub fn becomes_record(s: State, wanted: bool, source: bool, target: bool) -> bool
+    ensures { λ x. ⌜ x ≡ becomesBy source target s wanted ⌝ }
 {
     let paused = s.paused();
-    let valid = valid(s, e);
+    let valid = valid(source, target);
     wanted & !paused & !(valid == 0)
 }

@@ -3,4 +3,4 @@ use Rattle.change.proofs.return_clause.Statement.{statement}
 use Rattle.change.proofs.return_clause.Tie as tie
 
 pub return-clause-spec : {M : Type 1} → statement M
-return-clause-spec = tie.close (tie.spec (λ _ _. tt) (λ _ _. tt) (λ _ _. tt) (λ _ _. tt) (λ c. cc))
+return-clause-spec = tie.close (tie.spec (λ _ _. tt) (λ _ _. tt) (λ _ _. tt) (λ _ _. tt) (λ _ _. tt) (λ c. cc))

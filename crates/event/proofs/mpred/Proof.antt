@@ -3,8 +3,6 @@ use Prim.Native.Nat.{ℕ}
 use mathlib.Core.Path.{_≡_, refl}
 use mathlib.Core.Bool.{Bool, true, false, cond, _&&_, not}
 use Rattle.state.specs.Named.{predictionShown}
-use Rattle.region.specs.Region.{prohibited}
-use Rattle.event.specs.Event.{MPRED}
 use Rattle.event.proofs.mpred.Statement.{statement}
 use Rattle.event.proofs.mpred.Tie as tie
 
@@ -15,15 +13,13 @@ both false true flag = refl
 both false false flag = refl
 
 pub mpred-spec : {M : Type 1} → statement M
-unfolding MPRED
 mpred-spec =
     tie.close
     (tie.spec
     (λ _ _. tt)
     (λ _ _. tt)
     (λ _ _. tt)
-    (λ _ _. tt)
     (λ c.
-    let hidden = c .before .before in
-    let given = hidden .before .before .args in
-    rw (c .pick2 .ensures, c .before .pick .ensures, hidden .prohibited .ensures, hidden .before .prediction-shown .ensures) (both (predictionShown (given .s)) (prohibited (given .s) (given .e .left)) (given .e .mispredicted))))
+    let shown = c .before .before in
+    let given = shown .before .args in
+    rw (c .pick2 .ensures, c .before .pick .ensures, shown .prediction-shown .ensures) (both (predictionShown (given .s)) (given .source) (given .e .mispredicted))))
