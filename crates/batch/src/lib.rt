@@ -9,7 +9,6 @@ ghost use Rattle.recording.specs.Recording.{operationAt};
 ghost use Rattle.batch.specs.Run.{readings, placeAfter};
 ghost use Rattle.batch.specs.Batch.{stepOfRead, steps, inNumbers, batched, batchOf};
 use answer::Answer;
-use operation::operation_of;
 use recorder::lent_step;
 use recording::Reading;
 use recording::operation_at;
@@ -72,8 +71,7 @@ fn turn(
 {
     match operation_at(bytes, at) {
         Reading::Operation(x, next) => {
-            let o = operation_of(x.code, x.a, x.b, x.c, x.d);
-            let answer = lent_step(words, room, o, x.cycles);
+            let answer = lent_step(words, room, x.code, x.cycles, x.d, x.c, x.b, x.a);
             put(answers, place, answer);
             next
         }

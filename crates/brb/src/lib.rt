@@ -17,7 +17,6 @@ use bank::bank_source;
 use bank::bank_target;
 use batch::batch;
 use count::Spread;
-use operation::operation_of;
 use recorder::lent_step;
 use recording::Numbers;
 use recording::Reading;
@@ -41,7 +40,7 @@ pub extern "C" fn brb_step(
 ) -> Returned
     ensures { λ r. ⌜ together r (now (state .exit)) (now (room .exit)) ≡ stepResult (now (state .entry)) code cycles a b c d (now (room .entry)) ⌝ }
 {
-    let answer = lent_step(state, room, operation_of(code, a, b, c, d), cycles);
+    let answer = lent_step(state, room, code, cycles, d, c, b, a);
     answer.returned()
 }
 
@@ -192,8 +191,7 @@ pub extern "C" fn brb_step_recorded(
     };
     match operation_at(bytes, at) {
         Reading::Operation(x, next) => {
-            let o = operation_of(x.code, x.a, x.b, x.c, x.d);
-            let answer = lent_step(state, room, o, x.cycles);
+            let answer = lent_step(state, room, x.code, x.cycles, x.d, x.c, x.b, x.a);
             returned_at(answer, next)
         }
         Reading::Refused(number, place) => returned_at(Answer::Refused(number), place),

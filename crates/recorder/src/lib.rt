@@ -1,11 +1,13 @@
 // The step: one operation on a state and a lent room (document 01, whole; docs/MANUAL.md, "Operations").
 ghost use mathlib.Core.Path.{_≡_};
+ghost use Rattle.operation.specs.Operation.{operationOf};
 ghost use Rattle.recorder.specs.Step.{accepted, stepOf};
 ghost use Rattle.recorder.specs.Result.{together};
 ghost use Rattle.recorder.specs.Lent.{lentStep};
 use answer::Answer;
 use change::decide;
 use operation::Operation;
+use operation::operation_of;
 use operation::refusal;
 use room::apply;
 use state::Loaded;
@@ -47,10 +49,21 @@ pub fn step(s: State, room: &mut [u64], o: Operation, cycles: u64) -> Stepped
     }
 }
 
-// The same on a state that is lent as numbers: it is loaded and judged first, and stored where the step left it.
-pub fn lent_step(words: &mut [u64], room: &mut [u64], o: Operation, cycles: u64) -> Answer
-    ensures { λ r. ⌜ together r (now (words .exit)) (now (room .exit)) ≡ lentStep (now (words .entry)) o cycles (now (room .entry)) ⌝ }
+// The same on a state that is lent as numbers, of an operation in numbers: the state is loaded and judged first, and stored where the
+// step left it. The operation is made here, so that its numbers come in registers or one by one.
+pub fn lent_step(
+    words: &mut [u64],
+    room: &mut [u64],
+    code: u64,
+    cycles: u64,
+    d: u64,
+    c: u64,
+    b: u64,
+    a: u64,
+) -> Answer
+    ensures { λ r. ⌜ together r (now (words .exit)) (now (room .exit)) ≡ lentStep (now (words .entry)) (operationOf code a b c d) cycles (now (room .entry)) ⌝ }
 {
+    let o = operation_of(code, a, b, c, d);
     let loaded = load(&words[..]);
     match loaded {
         Loaded::Held(s) => {

@@ -7,8 +7,8 @@ use Rattle.batch.proofs.turn.Tie as tie
 returns : tie.Need-returns
 returns c =
     let l = c .before .before .before .before .before .before .before .before in
-    let x = l .before .before .before .before .before in
-    rw (← x .before .before .operation-at .ensures, x .x .given .1, ← l .before .before .before .operation-of .ensures, ← l .lent-step .ensures)
+    let x = l .before .before .before .before in
+    rw (← x .before .before .operation-at .ensures, x .x .given .1, ← l .lent-step .ensures)
     (refl, (refl, (refl, c .before .before .put .ensures)))
 
 returns-2 : tie.Need-returns-2
@@ -22,7 +22,6 @@ turn-spec =
     (tie.spec
     (λ _ _. tt)
     (λ c. search needs)
-    (λ _ _. tt)
     (λ _ _. tt)
     (λ c κs. search needs)
     (λ c. search needs)

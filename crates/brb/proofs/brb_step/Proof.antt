@@ -12,9 +12,8 @@ brb-step-spec =
     (tie.spec
     (λ _ _. tt)
     (λ _ _. tt)
-    (λ _ _. tt)
     (λ c. search needs)
     (λ c. search needs)
     (λ c.
     let l = c .before .before .before .before .before in
-    rw (c .returned .ensures, ← l .before .operation-of .ensures) (ap asNumbers (l .lent-step .ensures))))
+    rw (c .returned .ensures) (ap asNumbers (l .lent-step .ensures))))

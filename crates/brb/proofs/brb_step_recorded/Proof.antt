@@ -65,16 +65,15 @@ brb-step-recorded-spec =
     (λ c. search needs)
     (λ _ _. tt)
     (λ _ _. tt)
-    (λ _ _. tt)
     (λ c. search needs)
     (λ _ _. tt)
     (λ c. search needs)
     (λ c. search needs)
     (λ c.
     let l = c .before .before .before .before .before in
-    let x = l .before .before .before .before .before in
+    let x = l .before .before .before .before in
     let d = x .before .before .before in
-    rw (c .returned-at2 .ensures, goes-on d, ← x .before .before .operation-at .ensures, x .x .given .1, ← l .before .before .before .operation-of .ensures)
+    rw (c .returned-at2 .ensures, goes-on d, ← x .before .before .operation-at .ensures, x .x .given .1)
     (ap (asRecorded _) (l .lent-step .ensures ∙ lent-held _ _ _ _ _ (loads d))))
     (λ c. search needs)
     (λ c.

@@ -10,12 +10,17 @@ lent-step-spec =
     tie.close
     (tie.spec
     (λ _ _. tt)
+    (λ _ _. tt)
     (λ c. search needs)
     (λ _ _. tt)
     (λ _ _. tt)
     (λ c. search needs)
     (λ c. search needs)
     (λ c. search needs)
-    (λ c. rw (← c .before .before .before .before .before .before .before .before .before .before .before .before .load .ensures, c .before .before .before .before .before .before .before .before .before .before .loaded .given .1, ← c .before .before .before .before .before .before .before .step .ensures, c .before .before .store .ensures))
+    (λ c.
+    let step = c .before .before .before .before .before .before .before in
+    let held = step .before .before .before in
+    let load = held .before .before in
+    rw (← load .load .ensures, held .loaded .given .1, ← load .before .before .operation-of .ensures, ← step .step .ensures, c .before .before .store .ensures))
     (λ c. search needs)
     (λ c. rw (← c .before .before .load .ensures, c .enum-told .given .1)))
