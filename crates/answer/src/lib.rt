@@ -5,7 +5,7 @@ ghost use Rattle.std.specs.Prelude.{◌≡◌};
 ghost use Rattle.answer.specs.Answer.{returned, is_done};
 
 // An answer. Steps, accesses, the bank view, and the reader and writer of recordings answer with it.
-#[derive(Drop)]
+#[derive(Clone, Copy)]
 pub enum Answer {
     // Done, with nothing to show.
     Done,
@@ -23,7 +23,7 @@ pub enum Answer {
 
 // An answer as its two numbers.
 #[repr(C)]
-#[derive(Drop)]
+#[derive(Clone, Copy)]
 pub struct Returned {
     pub number: u64,
     pub value: u64,

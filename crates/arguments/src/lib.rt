@@ -10,7 +10,7 @@ use libc::{STDERR_FILENO, STDIN_FILENO, STDOUT_FILENO};
 use message::{say_shown, say_unread};
 
 // What a program is to read.
-#[derive(Drop)]
+#[derive(Clone, Copy)]
 pub enum Input {
     // A descriptor that is open for reading.
     Opened(i32),
@@ -19,7 +19,7 @@ pub enum Input {
 }
 
 // What a program is called with.
-#[derive(Drop)]
+#[derive(Clone, Copy)]
 pub struct Called {
     pub input: Input,
     // `--numbers` was given.
@@ -29,7 +29,7 @@ pub struct Called {
 }
 
 // The same of a program that takes two inputs.
-#[derive(Drop)]
+#[derive(Clone, Copy)]
 pub struct CalledTwo {
     pub first: Input,
     pub second: Input,
@@ -40,7 +40,7 @@ pub struct CalledTwo {
 }
 
 // What one argument is.
-#[derive(Drop)]
+#[derive(Clone, Copy)]
 enum Word {
     Help,
     Version,
@@ -54,7 +54,7 @@ enum Word {
 }
 
 // What the arguments so far say.
-#[derive(Drop)]
+#[derive(Clone, Copy)]
 struct Seen {
     help: bool,
     version: bool,
@@ -71,7 +71,7 @@ struct Seen {
 }
 
 // What a program does once it has seen its arguments.
-#[derive(Drop)]
+#[derive(Clone, Copy)]
 enum Next {
     Stop,
     // It prints how it is used.
@@ -85,7 +85,7 @@ enum Next {
 }
 
 // What an input's name says.
-#[derive(Drop)]
+#[derive(Clone, Copy)]
 enum Source {
     Standard,
     // The name is empty.

@@ -14,7 +14,7 @@ use state::is_size;
 const BANKED: u64 = 32;
 
 // The records of a room, as one bank shows them: `start` is the place of record 0, `first` the number of the bank's first record.
-#[derive(Drop)]
+#[derive(Clone, Copy)]
 pub struct BankView<'a> {
     pub records: &'a [u64],
     pub size: u64,

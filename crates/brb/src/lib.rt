@@ -120,7 +120,7 @@ pub extern "C" fn brb_bank_target(
 
 // What a recorded step answers, and where reading goes on.
 #[repr(C)]
-#[derive(Drop)]
+#[derive(Clone, Copy)]
 pub struct BrbRecorded {
     pub number: u64,
     pub value: u64,

@@ -34,7 +34,7 @@ const DEBUG_EXIT: u64 = 0x39;
 // What the clause of an operation says: what the operation has set, and whether it is an occasion by what it did, wherever it
 // began; an event, whether it is wanted and whether the side that it enters is prohibited, and what happens to the records where it
 // becomes none; and the answer. An operation that is no event asks for one that is not wanted.
-#[derive(Drop)]
+#[derive(Clone, Copy)]
 struct Clause {
     sets: State,
     occasion: bool,
@@ -46,7 +46,7 @@ struct Clause {
 }
 
 // All that an accepted operation comes to, before the room is written.
-#[derive(Drop)]
+#[derive(Clone, Copy)]
 pub struct Decided {
     pub answer: Answer,
     pub state: State,

@@ -29,7 +29,7 @@ pub const C: u64 = 16;
 pub const D: u64 = 32;
 
 // A recording's first bad number.
-#[derive(Drop)]
+#[derive(Clone, Copy)]
 pub enum Bad {
     Nothing,
     // The number of its refusal, and the byte where it starts, or would start.
@@ -38,7 +38,7 @@ pub enum Bad {
 
 // What a recording holds from a place on: which recording, the place, and how many bytes.
 #[repr(C)]
-#[derive(Drop)]
+#[derive(Clone, Copy)]
 pub struct Rest {
     pub of: u64,
     pub at: u64,
@@ -47,7 +47,7 @@ pub struct Rest {
 
 // Where two recordings part, in the numbers of `struct brb_parting`, in its order.
 #[repr(C)]
-#[derive(Drop)]
+#[derive(Clone, Copy)]
 pub struct Parting {
     // 0; or the number of the refusal, whose it is and where: all else is then 0.
     pub number: u64,
@@ -64,7 +64,7 @@ pub struct Parting {
 }
 
 // How far two recordings were read together.
-#[derive(Drop)]
+#[derive(Clone, Copy)]
 pub struct Walk {
     // The places in the first and in the second.
     pub at: usize,
@@ -77,7 +77,7 @@ pub struct Walk {
 }
 
 // The walk, and how many operations of the first are next passed at once to be compared by their bytes.
-#[derive(Drop)]
+#[derive(Clone, Copy)]
 struct Leap {
     walk: Walk,
     most: usize,
@@ -407,7 +407,7 @@ pub fn rest_part<'a>(a: &'a [u8], b: &'a [u8], rest: Rest) -> &'a [u8]
 }
 
 // Where two recordings part, with the rest of the longer one as a part of it.
-#[derive(Drop)]
+#[derive(Clone, Copy)]
 pub struct Compared<'a> {
     pub parting: Parting,
     pub rest: &'a [u8],

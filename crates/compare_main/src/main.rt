@@ -18,7 +18,7 @@ use recording::{Numbers, Reading};
 use std::num::{wrapping_add_u64, wrapping_sub_u64};
 
 // Two inputs that are read together: what of each is in its buffer, how far the walk along both is, and the pair that is kept.
-#[derive(Drop)]
+#[derive(Clone, Copy)]
 struct Pair {
     first: Window,
     second: Window,
@@ -165,7 +165,7 @@ fn with_second(second: Window, mut p: Pair) -> Pair {
 }
 
 // The two inputs' descriptors, and the places of their names among the arguments.
-#[derive(Drop)]
+#[derive(Clone, Copy)]
 struct Inputs {
     first: i32,
     second: i32,

@@ -16,7 +16,7 @@ use std::num::wrapping_add_u64;
 
 // What is told of two recordings: where they part, their first unequal pair, where there is one, and how many operations are
 // left of the longer.
-#[derive(Drop)]
+#[derive(Clone, Copy)]
 pub struct Told {
     pub parting: Parting,
     pub x: Numbers,

@@ -15,7 +15,7 @@ use recording::field_count;
 const SHOWN: usize = 32;
 
 // Where in the text something is wrong. All three count from 1.
-#[derive(Drop)]
+#[derive(Clone, Copy)]
 pub struct Spot {
     pub line: u64,
     pub column: u64,

@@ -8,7 +8,7 @@ ghost use Rattle.count.specs.Count.{encoded, decoded, from_to, at_least, refused
 use bits::pick;
 
 // What a CC value says of the count.
-#[derive(Drop)]
+#[derive(Clone, Copy)]
 pub enum Decoded {
     // The smallest and the largest count that have this encoding.
     Known(u64, u64),
@@ -20,7 +20,7 @@ pub enum Decoded {
 
 // The counts that an encoding, or a run of them, may stand for, as a host is answered.
 #[repr(C)]
-#[derive(Drop)]
+#[derive(Clone, Copy)]
 pub struct Spread {
     // 0, or the number of a refusal, which has 0 in all else.
     pub number: u64,

@@ -31,7 +31,7 @@ const MISPREDICTED: u64 = 0x20;
 const VALIDITY: u64 = 0x1;
 
 // A taken branch, an exception, an exception return, a halt or a resume.
-#[derive(Drop)]
+#[derive(Clone, Copy)]
 pub struct Event {
     // The type; that word is the language's own.
     pub kind: u64,

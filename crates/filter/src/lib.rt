@@ -10,7 +10,7 @@ ghost use Rattle.filter.specs.Filter.{branch_types, exception_types, filter_bit,
 const ENI: u64 = 0x1_0000;
 
 // A branch type, by its code in BRBINF's TYPE field.
-#[derive(Drop)]
+#[derive(Clone, Copy)]
 pub struct BranchType {
     pub code: u64,
 }

@@ -54,7 +54,7 @@ pub fn passage_at(bytes: &[u8], end: usize, at: usize, most: usize) -> Passage
 }
 
 // What of an input is in its buffer, from `start` to `end`; `before` bytes went before the buffer's first.
-#[derive(Drop)]
+#[derive(Clone, Copy)]
 pub struct Window {
     pub start: usize,
     pub end: usize,

@@ -67,7 +67,7 @@ pub fn write_line(out: &mut [u8], at: usize, answer: Answer) -> usize
 }
 
 // Where a replay stands after an operation.
-#[derive(Drop)]
+#[derive(Clone, Copy)]
 pub struct Turn {
     pub state: State,
     // The place of the next operation, or of the bad number.

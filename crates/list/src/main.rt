@@ -20,7 +20,7 @@ use std::num::wrapping_add_u64;
 const LONGEST: usize = 60;
 
 // What of the input is in its buffer, from `start` to `end`; `before` bytes went before the buffer's first.
-#[derive(Drop)]
+#[derive(Clone, Copy)]
 struct Place {
     start: usize,
     end: usize,

@@ -11,7 +11,7 @@ use operation::LAST_CODE;
 use recording::{Numbers, field_count};
 
 // What is wrong with the text.
-#[derive(Drop)]
+#[derive(Clone, Copy)]
 pub enum Problem {
     // A word that is no number.
     NoNumber,
@@ -24,14 +24,14 @@ pub enum Problem {
 }
 
 // An operation that is being read: its numbers so far, and how many they are.
-#[derive(Drop)]
+#[derive(Clone, Copy)]
 pub struct Begun {
     pub numbers: Numbers,
     pub count: u64,
 }
 
 // What reading on from a place comes to.
-#[derive(Drop)]
+#[derive(Clone, Copy)]
 pub enum Step {
     // The bytes end before the operation does.
     More(Begun),
@@ -44,7 +44,7 @@ pub enum Step {
 }
 
 // A number with a digit more.
-#[derive(Drop)]
+#[derive(Clone, Copy)]
 pub enum Appended {
     Value(u64),
     // It is above 2^64 - 1.
@@ -52,7 +52,7 @@ pub enum Appended {
 }
 
 // What a word is.
-#[derive(Drop)]
+#[derive(Clone, Copy)]
 enum Word {
     // A number, and the place after it.
     Number(u64, usize),
@@ -60,7 +60,7 @@ enum Word {
 }
 
 // What stands at a place.
-#[derive(Drop)]
+#[derive(Clone, Copy)]
 enum Part {
     // White space or a number: the operation with it, and the place after it.
     On(Begun, usize),

@@ -5,7 +5,7 @@ ghost use Rattle.std.specs.Prelude.{◌≡◌, ◌+◌, ◌≤◌, ◌<◌, leng
 ghost use Rattle.number.specs.Number.{continued, number_in, number_at, bytes_of, written, written_if, count_if};
 
 // What stands at a place of a recording.
-#[derive(Drop)]
+#[derive(Clone, Copy)]
 pub enum Found {
     // A number, and the place after it.
     Value(u64, usize),

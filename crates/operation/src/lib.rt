@@ -21,7 +21,7 @@ pub const LAST_CODE: u64 = 10;
 
 // One operation and its fields, which are numbers as handed in: refusal 4 judges them. (`kind` is a type; that word is the
 // language's own.)
-#[derive(Drop)]
+#[derive(Clone, Copy)]
 pub enum Operation {
     Reset {
         size: u64,

@@ -21,7 +21,7 @@ use std::num::{wrapping_add_u64, wrapping_sub_u64};
 const LONGEST: usize = 60;
 
 // What of the text is in its buffer, from `start` to `end`, of it up to `whole` with no word cut off, and where it stands.
-#[derive(Drop)]
+#[derive(Clone, Copy)]
 struct Work {
     start: usize,
     whole: usize,

@@ -14,7 +14,7 @@ use room::apply;
 use state::{Loaded, State, load, store};
 
 // A step's answer, and the state as it leaves it; the room it leaves is the lent one.
-#[derive(Drop)]
+#[derive(Clone, Copy)]
 pub struct Stepped {
     pub answer: Answer,
     pub state: State,

@@ -16,7 +16,7 @@ use recorder::step;
 use state::State;
 
 // An operation as its six numbers. Those beyond its own fields are 0 where they were read.
-#[derive(Drop)]
+#[derive(Clone, Copy)]
 pub struct Numbers {
     pub code: u64,
     pub cycles: u64,
@@ -42,7 +42,7 @@ impl Numbers {
 }
 
 // What reading an operation at a place finds.
-#[derive(Drop)]
+#[derive(Clone, Copy)]
 pub enum Reading {
     // The operation, and the place after it.
     Operation(Numbers, usize),
@@ -51,7 +51,7 @@ pub enum Reading {
 }
 
 // How many operations were passed, and the place after them.
-#[derive(Drop)]
+#[derive(Clone, Copy)]
 pub struct Passage {
     pub count: usize,
     pub at: usize,
@@ -101,7 +101,7 @@ pub fn field_count(code: u64) -> u64
 }
 
 // An operation whose code is known, as far as its cycles and fields could be read.
-#[derive(Drop)]
+#[derive(Clone, Copy)]
 struct Fields {
     // The operation, where all of them were.
     numbers: Numbers,
@@ -302,7 +302,7 @@ pub fn write_operation(out: &mut [u8], at: usize, x: Numbers) -> Answer
 
 // A recorded step's answer, the state as it leaves it, and the place where reading goes on; the room it leaves is the
 // lent one.
-#[derive(Drop)]
+#[derive(Clone, Copy)]
 pub struct Replayed {
     pub answer: Answer,
     pub state: State,

@@ -8,7 +8,7 @@ ghost use Rattle.room.specs.Room.{zero_record, records, numbered, below, written
 use bits::pick;
 
 // One branch record: BRBINF, BRBSRC and BRBTGT.
-#[derive(Drop)]
+#[derive(Clone, Copy)]
 pub struct Record {
     pub inf: u64,
     pub source: u64,
@@ -28,7 +28,7 @@ impl Record {
 }
 
 // What an accepted operation does to the records.
-#[derive(Drop)]
+#[derive(Clone, Copy)]
 pub enum Effect {
     // Nothing.
     Keep,

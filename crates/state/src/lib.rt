@@ -44,14 +44,14 @@ pub const DEBUG_STATE: u64 = 4;
 pub const STATE_NUMBERS: usize = 12;
 
 // The running count, and whether the next record's count is unknown.
-#[derive(Drop)]
+#[derive(Clone, Copy)]
 pub struct Running {
     pub count: u64,
     pub unknown: u64,
 }
 
 // All that one processor's recorder holds but its records. In lent memory these twelve numbers stand in this order.
-#[derive(Drop)]
+#[derive(Clone, Copy)]
 pub struct State {
     pub level: u64,
     // 0 before the first reset.
@@ -259,7 +259,7 @@ impl State {
 }
 
 // What lent numbers hold.
-#[derive(Drop)]
+#[derive(Clone, Copy)]
 pub enum Loaded {
     Held(State),
     // Refusal 7.

@@ -14,7 +14,7 @@ pub const LONGEST_OPERATION: usize = 60;
 
 // Where the replay stands: the bytes from `at` to `end` of the input's buffer were read and are not yet replayed, and the
 // first `used` bytes of the output's hold lines that are not yet written.
-#[derive(Drop)]
+#[derive(Clone, Copy)]
 pub struct Progress {
     pub state: State,
     pub at: usize,

@@ -8,7 +8,7 @@ ghost use Rattle.sum.specs.Total.{plus, both_ends};
 use count::{Spread, decode};
 
 // A sum of numbers of 64 bits.
-#[derive(Drop)]
+#[derive(Clone, Copy)]
 pub enum Total {
     // It is at most 2^64 - 1.
     Fits(u64),
