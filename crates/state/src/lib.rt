@@ -3,7 +3,8 @@
 
 ghost use Rattle.std.specs.Prelude.{◌≡◌};
 ghost use Rattle.bits.specs.Bits.{one_of};
-ghost use Rattle.state.specs.Named.{EL2Enabled, el3_recording_enabled, counting, prediction_shown, PAUSED, BANK, side, sizes, fresh, after_reset, at_level, in_debug_state, resumed_at, frozen_at, with_platform, with_registers, with_running, with_start};
+ghost use Rattle.state.specs.Named.{EL2Enabled, el3_recording_enabled, counting, prediction_shown, side, sizes, fresh, after_reset, at_level, in_debug_state, resumed_at, frozen_at, with_platform, with_registers, with_running, with_start};
+ghost use Rattle.state.specs.Named as named;
 ghost use Rattle.state.specs.Sound.{unavailable, sound};
 ghost use Rattle.state.specs.Words.{stored, loaded};
 
@@ -105,13 +106,13 @@ impl State {
     }
 
     pub fn paused(self) -> bool
-        ensures { result ≡ PAUSED self }
+        ensures { result ≡ named.PAUSED self }
     {
         self.brbfcr / PAUSED % 2 == 1
     }
 
     pub fn bank(self) -> u64
-        ensures { result ≡ BANK self }
+        ensures { result ≡ named.BANK self }
     {
         self.brbfcr / BANK % 4
     }

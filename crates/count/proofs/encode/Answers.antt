@@ -1,6 +1,7 @@
 -- `count::encode` meets its contract: what is rounded is a count of 256 and more that the counter holds, whose leading zeros tell its
 -- power of two (`power`); with that power each step stays in range, and where the count is such a one itself, makes the encoding.
 -- Assumes nothing.
+use Rattle.std.proofs.Common.{rules}
 use Prim.Native.Nat.{ℕ, ◌+◌, ◌*◌, ◌-◌, ◌^◌, ◌/◌, ◌≤◌, ◌<◌}
 use mathlib.Core.Path.{◌≡◌, sym, ◌∙◌}
 use mathlib.Core.Bool.{cond, ◌||◌}
@@ -8,13 +9,11 @@ use mathlib.Core.Logic.{⊎_elim}
 use native.Mathlib.Omega.{arith}
 use lib.Count.{count_leading_zeros}
 use lib.Dec.{ltb}
-use borrow.Author.Rules.{rules}
 use borrow.Author.Tests.{le-ltb, lt-ltb}
 use Rattle.bits.proofs.Cases.{below_or_not}
 use Rattle.count.specs.Count.{largest_count, exceeded, encoded}
 use Rattle.count.proofs.Laws.{Scaled, power, above, encoded_small, encoded_at, quotient, least_quotient, encoded_fits}
-use Rattle.count.proofs.encode.Statement.{statement}
-use Rattle.count.proofs.encode.Tie as tie
+use Rattle.count.proofs.encode.Goals as goal
 
 -- What is rounded: the count, or 256 where it has no E or no encoding.
 abbrev rounded : ℕ → ℕ
@@ -48,38 +47,37 @@ by_size n =
     (below_or_not n 256))
     (below_or_not largest_count n)
 
-abbrev count : tie.After-pick → ℕ
-count c = c.pick.result
+abbrev count : goal.After-pick-rounded → ℕ
+count c = c.pick-rounded.result
 
-told : (c : tie.After-pick) → (e : ℕ) × (count_leading_zeros 64 (count c) + e ≡ 55) × Scaled e (count c)
+told : (c : goal.After-pick-rounded) → (e : ℕ) × (count_leading_zeros 64 (count c) + e ≡ 55) × Scaled e (count c)
 told c =
-    let (low, high) = in_range c.before.args.n in
-    power (count c) (rw c.pick.ensures low) (rw c.pick.ensures high)
+    let (low, high) = in_range c.args.n in
+    power (count c) (rw c.pick-rounded.ensures low) (rw c.pick-rounded.ensures high)
 
-least : (c : tie.After-pick) → 256 ≤ count c / 2 ^ (56 - count_leading_zeros 64 (count c) - 1)
+least : (c : goal.After-pick-rounded) → 256 ≤ count c / 2 ^ (56 - count_leading_zeros 64 (count c) - 1)
 least c =
     let (e, zeros, s) = told c in
     least_quotient e (count c) s (omega arith)
 
-fits : (c : tie.After-pick) → parts (count c) < 2 ^ 14
+fits : (c : goal.After-pick-rounded) → parts (count c) < 2 ^ 14
 fits c =
-    let (low, high) = in_range c.before.args.n in
-    omega (arith, encoded_parts (count c) (rw c.pick.ensures low) (rw c.pick.ensures high), encoded_fits (count c))
+    let (low, high) = in_range c.args.n in
+    omega (arith, encoded_parts (count c) (rw c.pick-rounded.ensures low) (rw c.pick-rounded.ensures high), encoded_fits (count c))
 
-pub encode_spec : {M : Type 1} → statement M
-encode_spec =
-    tie.close
-    (tie.spec
-    (λ _ _. tt)
-    (λ c. omega (arith, told c))
-    (λ c. omega (arith, told c))
-    (λ c. omega (arith, told c))
-    (λ c. search rules)
-    (λ c. omega (arith, least c))
-    (λ c. omega (arith, told c))
-    (λ c. omega (arith, fits c))
-    (λ _ _. tt)
-    (λ _ _. tt)
-    (λ c.
-    let n = c.before.before.before.args.n in
-    rw (c.pick3.ensures, c.before.pick2.ensures, c.before.before.pick.ensures) (by_size n)))
+pub overflow_sub-e : goal.overflow_sub-e
+overflow_sub-e c =
+    omega (arith, told c)
+
+pub overflow_sub-m : goal.overflow_sub-m
+overflow_sub-m c =
+    omega (arith, told c)
+
+pub overflow_sub-m-2 : goal.overflow_sub-m-2
+overflow_sub-m-2 c =
+    omega (arith, least c)
+
+pub returns : goal.returns
+returns c =
+    let n = c.args.n in
+    rw (c.pick.ensures, c.pick-within.ensures, c.pick-rounded.ensures) (by_size n)

@@ -1,0 +1,64 @@
+-- `number::more_at` meets its contract. The loop's invariant is `Passed`: what the groups passed make of what the rest reads
+-- as is the whole. The measure is how far the place is from the loop's end. Assumes nothing.
+use Rattle.std.proofs.Common.{◌+◌, ◌≤◌}
+use Prim.Native.Nat.{◌+◌, ◌-◌, ◌≤◌}
+use native.Mathlib.Omega.{arith}
+use lib.ListN.{drop}
+use Rattle.number.specs.Number.{continued, number_in}
+use Rattle.number.proofs.Groups.{Passed, passed_first, ended, zeroed, place_fits, product_fits, sum_fits, valued, turned, tenth_place, tenth_one, tenth_other}
+use Rattle.number.proofs.more_at.Goals as goal
+
+pub returns-then-byte-eq0 : goal.returns-then-byte-eq0
+returns-then-byte-eq0 c =
+    let l = c.loop-i in
+    zeroed l.invariant.0 (omega arith) (omega arith)
+
+pub overflow_mul-result : goal.overflow_mul-result
+overflow_mul-result c =
+    product_fits c.loop-i.invariant.0 (omega arith) (omega arith)
+
+pub overflow_add-result : goal.overflow_add-result
+overflow_add-result c =
+    sum_fits c.loop-i.invariant.0 (omega arith) (omega arith)
+
+pub returns-then-byte-lt128 : goal.returns-then-byte-lt128
+returns-then-byte-lt128 c =
+    valued c.loop-i.invariant.0 (omega arith) (omega arith) (omega arith) (omega arith)
+
+pub overflow_mul-value : goal.overflow_mul-value
+overflow_mul-value c =
+    let l = c.loop-i in
+    let byte = c.shared_slice_known-in-loop-i-1.given l.i in
+    product_fits l.invariant.0 (omega arith) (omega arith)
+
+pub overflow_add-value : goal.overflow_add-value
+overflow_add-value c =
+    let l = c.loop-i in
+    let byte = c.shared_slice_known-in-loop-i-1.given l.i in
+    sum_fits l.invariant.0 (omega arith) (omega arith)
+
+pub overflow_mul-place : goal.overflow_mul-place
+overflow_mul-place c =
+    place_fits c.loop-i.invariant.0 (omega arith)
+
+pub loop-i-preserved : goal.loop-i-preserved
+loop-i-preserved c =
+    let l = c.loop-i in
+    let byte = c.shared_slice_known-in-loop-i-1.given l.i in
+    (turned l.invariant.0 (omega arith) (omega arith) (omega arith) (omega arith), omega arith)
+
+pub returns-then-bytes-i : goal.returns-then-bytes-i
+returns-then-bytes-i c =
+    ended c.loop-i.invariant.0 (omega arith)
+
+pub returns-then-bytes-i-eq1 : goal.returns-then-bytes-i-eq1
+returns-then-bytes-i-eq1 c =
+    -- the loop ended at the tenth byte
+    let low : c.args.at + 8 ≤ c.loop-i.i = omega (arith, c.tenth_at-tenth.ensures.3 (omega arith)) in
+    tenth_one c.loop-i.invariant.0 low (omega arith) (omega arith)
+
+pub returns : goal.returns
+returns c =
+    -- the loop ended at the tenth byte
+    let low : c.args.at + 8 ≤ c.loop-i.i = omega (arith, c.tenth_at-tenth.ensures.3 (omega arith)) in
+    tenth_other c.loop-i.invariant.0 low (omega arith) (omega arith)
