@@ -2,7 +2,8 @@
 #![tactic(auto)]
 
 ghost use Rattle.std.specs.Prelude.{◌≡◌};
-ghost use Rattle.freeze.specs.Freeze.{FZP, freezes, TS, difference, time, overflowed};
+ghost use Rattle.freeze.specs.Freeze.{freezes, difference, time, overflowed};
+ghost use Rattle.freeze.specs.Freeze as freeze;
 
 use bits::{pick, pick_bool};
 use region::prohibited;
@@ -22,7 +23,7 @@ const PHYSICAL: u64 = 3;
 
 // The control of a counter's group.
 fn controlled(s: State, group: u64) -> bool
-    ensures { result ≡ FZP s group }
+    ensures { result ≡ freeze.FZP s group }
 {
     pick_bool(group == 0, s.brbcr1 / FZP % 2 == 1, s.brbcr2 / FZP % 2 == 1)
 }
@@ -39,7 +40,7 @@ fn freezes(s: State, group: u64) -> bool
 
 // Which time is kept: BRBCR_EL2 chooses, or BRBCR_EL1 where it does not.
 fn ts(s: State) -> u64
-    ensures { result ≡ TS s }
+    ensures { result ≡ freeze.TS s }
 {
     let el2 = s.brbcr2 / TS % 4;
     pick(el2 == 0, s.brbcr1 / TS % 4, el2)

@@ -2,7 +2,7 @@
 use Prim.Native.Nat.{ℕ, suc, ◌+◌, ◌-◌, ◌≤◌, ◌<◌}
 use native.Mathlib.Omega.{arith}
 use mathlib.Core.Path.{◌≡◌, refl, sym, ap, ◌∙◌}
-use mathlib.Core.Bool.{Bool, true, false, cond, ◌&&◌, not, and_true, and_assoc}
+use mathlib.Core.Bool.{Bool, true, false, cond, ◌&&◌, not, and-true, and_assoc}
 use mathlib.Core.Logic.{⊎_elim, ◌≢◌}
 use mathlib.Core.List.{List, []}
 use lib.Dec.{eqb, ltb}
@@ -112,7 +112,7 @@ unfolding summed added every
 ended run i low high bounded l h =
     let nothing : drop i run ≡ [] = drop_of_length-le run h in
     let listed : all_listed run ≡ true = sym l.lists ∙ ap all_listed nothing in
-    let all-bounded : all_bounded run ≡ bounded = sym l.bounds ∙ ap (λ (list : List ℕ). bounded && all_bounded list) nothing ∙ and_true bounded in
+    let all-bounded : all_bounded run ≡ bounded = sym l.bounds ∙ ap (λ (list : List ℕ). bounded && all_bounded list) nothing ∙ and-true bounded in
     let lows : low_sum run ≡ l.smallest = omega (arith, l.lows, ap low_sum nothing) in
     let highs : high_sum run ≡ l.largest = omega (arith, l.highs, ap high_sum nothing) in
     rw (listed, all-bounded, lows, highs, l.low_is, l.high_is) (answered l.smallest l.largest bounded)

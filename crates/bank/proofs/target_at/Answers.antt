@@ -1,0 +1,7 @@
+-- One number of the record that a bank shows.
+use Rattle.std.proofs.Common.{rules}
+use Rattle.bank.proofs.target_at.Goals as goal
+
+pub returns : goal.returns
+returns c =
+    cc

@@ -1,0 +1,16 @@
+-- What is left of the run and the sums so far are those of all of it (`Left`): each turn adds both ends of one encoding. Assumes nothing.
+use Prim.Native.Nat.{suc, ◌+◌, ◌-◌}
+use mathlib.Core.Path.{◌≡◌, ap, ◌∙◌}
+use native.Mathlib.Omega.{arith}
+use lib.ListN.{length, get_or}
+use Rattle.count.specs.Count.{decoded, spread_of}
+use Rattle.sum.proofs.Left.{Left, begins, turned, outside, ended}
+use Rattle.sum.proofs.sum.Given as goal
+
+abbrev pub invariant-loop-i : goal.invariant-loop-i
+invariant-loop-i l =
+    Left l.run l.i l.low l.high l.bounded
+
+abbrev pub decreases-loop-i : goal.decreases-loop-i
+decreases-loop-i l =
+    length l.run - l.i

@@ -1,0 +1,17 @@
+-- A text is copied from its front: what is left of it, stored from here on, is the whole of it stored from its place on.
+use Prim.Native.Nat.{◌+◌, ◌-◌, ◌≤◌, suc}
+use mathlib.Core.Path.{◌≡◌, refl, ◌∙◌}
+use native.Mathlib.Numerals.{add-one}
+use native.Mathlib.Omega.{arith}
+use lib.ListN.{length, drop, length-set}
+use lib.Seq.{sets, drop-cons, drop-length}
+use Rattle.number.proofs.Laws.{sets_written}
+use Rattle.text.proofs.put.Given as goal
+
+abbrev pub invariant-loop-j : goal.invariant-loop-j
+invariant-loop-j l =
+    (l.j ≤ length l.text) × (length l.out ≡ length l.initial.out) × (sets l.out (l.at + l.j) (drop l.j l.text) ≡ sets l.initial.out l.at l.text)
+
+abbrev pub decreases-loop-j : goal.decreases-loop-j
+decreases-loop-j l =
+    length l.text - l.j
