@@ -1,5 +1,5 @@
 -- What becomes of an event, where it is known already which of its two sides are prohibited: what the code promises, which finds that
--- out once for both. `event.proofs.Hidden` says that it is what `event.Event` has.
+-- out once for both. `event.proofs.HiddenLaws` says that it is what `event.Event` has.
 use Rattle.std.specs.Prelude.{ℕ, Bool, cond, ◌&&◌, not, eqb}
 use Rattle.count.specs.Count.{encoded}
 use Rattle.state.specs.declared.State.{State}

@@ -9,7 +9,7 @@ use Rattle.region.specs.Region.{prohibited}
 use Rattle.event.specs.declared.Event.{Event}
 use Rattle.event.specs.Event.{record_of, becomes_record}
 use Rattle.event.specs.Hidden.{record_by, becomes_by}
-use Rattle.event.proofs.Hidden.{record_by_lem, becomes_by_lem}
+use Rattle.event.proofs.HiddenLaws.{record_by_lem, becomes_by_lem}
 use Rattle.change.specs.Change.{passed}
 use Rattle.change.proofs.Occasions.{lines}
 use Rattle.change.proofs.decide.Statement.{statement}
