@@ -39,7 +39,7 @@ returns-in-Read c =
 pub returns-in-Write : goal.returns-in-Write
 unfolding changed
 returns-in-Write c =
-    let (o, e) = c.enum_told-in-Write-1.given in rw e (sym (size_kept c.args.s (Write o.0 o.1.0) refl))
+    rw c.in-Write.is (sym (size_kept c.args.s (Write c.in-Write.register c.in-Write.value) refl))
 
 pub returns-in-Iall : goal.returns-in-Iall
 unfolding changed
@@ -59,7 +59,7 @@ returns-in-Resume c =
 pub returns-in-Freeze : goal.returns-in-Freeze
 unfolding changed
 returns-in-Freeze c =
-    let (o, e) = c.enum_told-in-Freeze-1.given in rw e (sym (size_kept c.args.s (Freeze o.0 o.1.0 o.1.1.0 o.1.1.1.0) refl))
+    rw c.in-Freeze.is (sym (size_kept c.args.s (Freeze c.in-Freeze.group c.in-Freeze.physical c.in-Freeze.virtual_offset c.in-Freeze.guest_offset) refl))
 
 pub returns-in-Unknown : goal.returns-in-Unknown
 unfolding changed
