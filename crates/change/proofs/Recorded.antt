@@ -85,6 +85,7 @@ module _ (s : State) (r : Running) (wanted : Bool) (e : Event) where
           → Pushes (cond t (Push (record_of s r e)) Keep)
           → Becomes s wanted e.left e.entered
       go true h q = let all = sym h in record { is_wanted = search each; not_paused = search each; not_both = search each }
+      go false h q = elim q [ ]
 
   pushed : Becomes s wanted e.left e.entered → Pushes (event_effect s wanted e r)
   pushed b = rw (becomes_exactly s wanted e, b.is_wanted, b.not_paused, b.not_both) pushes
