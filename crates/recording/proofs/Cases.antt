@@ -17,8 +17,8 @@ use Rattle.number.specs.declared.Found.TheVariants.{Value, Malformed, Ended}
 use Rattle.recording.specs.Recording.{field_counts, field_count}
 
 -- What was found is no number: the way that `let .. else` leaves
-pub no_value : {P : Type 0} (f : Found) → OneOf (1 ∷ 2 ∷ []) (tag_of the_type f) → (f ≡ Malformed → P) → (f ≡ Ended → P) → P
-no_value (Value n next) h p q = absurd (⊎_elim (λ e. omega arith) (λ e. omega arith) h)
+pub no_value : {P : Type 0} (f : Found) → ((n next : ℕ) → f ≡ Value n next → ⊥) → (f ≡ Malformed → P) → (f ≡ Ended → P) → P
+no_value (Value n next) h p q = absurd (h n next refl)
 no_value Malformed h p q = p refl
 no_value Ended h p q = q refl
 

@@ -53,7 +53,7 @@ module _ {bytes : List ℕ} {start : ℕ} (h : SoFar bytes start) {found : Found
   and_one {n = n} {next = next} m = record { list = h.list ++ (n ∷ []); at = next; rest = next-rest m }
 
   -- It was no number, and more were asked for than were read.
-  pub and_none : OneOf (1 ∷ 2 ∷ []) (tag_of the_type found) → (count : ℕ) → length h.list < count
+  pub and_none : ((n next : ℕ) → found ≡ Value n next → ⊥) → (count : ℕ) → length h.list < count
       → numbers_at count bytes start ≡ bad 1 h.at
   unfolding numbers_at
   and_none none count more =
@@ -109,7 +109,7 @@ module _ {bytes : List ℕ} {start : ℕ} {array : List ℕ} {next i : ℕ} (h :
       }
 
   -- One of those that were asked for is none, or they are all.
-  pub held_bad : {found : Found} → found ≡ number_at bytes next → OneOf (1 ∷ 2 ∷ []) (tag_of the_type found) → (count : ℕ) → i < count
+  pub held_bad : {found : Found} → found ≡ number_at bytes next → ((n next : ℕ) → found ≡ Value n next → ⊥) → (count : ℕ) → i < count
       → numbers_at count bytes start ≡ bad 1 next
   held_bad {found} e none count more =
       let there : found ≡ number_at bytes h.read.at = rw h.place e in

@@ -312,7 +312,7 @@ pub struct Replayed {
 // One operation of a recording: the state is judged, the operation is read, and then it is stepped. After 7 nothing was read,
 // so that the place is the one handed in.
 pub fn recorded_step(s: State, room: &mut [u64], bytes: &[u8], at: usize) -> Replayed
-    ensures* { λ r. ⌜ record { result = together r.answer r.state room.new; next = r.next } ≡ recorded_step s room.old bytes.now at ⌝ }
+    ensures { record { result = together result.answer result.state room.new; next = result.next } ≡ recorded_step s room.old bytes.now at }
 {
     if !s.sound() {
         return refused(7, s, at);

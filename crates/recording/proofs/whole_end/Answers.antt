@@ -1,0 +1,42 @@
+-- Where an operation ends that has sixty bytes there, as defined: the code decides first.
+use Rattle.std.proofs.Common.{rules}
+use Prim.Native.Nat.{ℕ, suc, ◌+◌}
+use native.Mathlib.Omega.{arith}
+use mathlib.Core.Path.{◌≡◌, sym, ap, ◌∙◌}
+use borrow.Author.Tests.{lt-ltb, le-ltb}
+use Rattle.number.proofs.Window.{reach}
+use Rattle.operation.specs.Operation.{last_code}
+use Rattle.recording.specs.Recording.{field_count, numbers_at, operation_at}
+use Rattle.recording.specs.Run.{end_of_several}
+use Rattle.recording.proofs.Cases.{no_value}
+use Rattle.recording.proofs.End.{end_of_fields}
+use Rattle.recording.proofs.whole_end.Goals as goal
+
+pub returns-in_default : goal.returns-in_default
+unfolding operation_at
+returns-in_default c =
+    let r = c.number_at in no_value r.result c.in_default.not-Value (λ m. rw (← r.ensures, m)) (λ m. rw (← r.ensures, m))
+
+pub returns-then-code-gt-LAST_CODE : goal.returns-then-code-gt-LAST_CODE
+unfolding operation_at
+returns-then-code-gt-LAST_CODE c =
+    rw (← c.number_at.ensures, c.in-Value.is, lt-ltb last_code c.in-Value.code (omega arith))
+
+-- The code has ten bytes at most, and so has each number behind it.
+pub numbers_end-requires : goal.numbers_end-requires
+numbers_end-requires c =
+    let k = c in
+    let o = k in
+    let r = reach o.args.bytes.now o.args.at c.in-Value.code c.in-Value.next (sym o.number_at.ensures ∙ c.in-Value.is) in
+    omega (arith, r.allowed_to, c.field_count.ensures.1)
+
+pub returns : goal.returns
+unfolding operation_at
+returns c =
+    let f = c in
+    let k = f in
+    let o = k in
+    let bytes = o.args.bytes.now in
+    let count : f.field_count.result + 1 ≡ suc (field_count c.in-Value.code) = omega (arith, f.field_count.ensures.0) in
+    rw (← o.number_at.ensures, c.in-Value.is, le-ltb last_code c.in-Value.code (omega arith))
+    (c.numbers_end.ensures ∙ ap (λ (j : ℕ). end_of_several (numbers_at j bytes c.in-Value.next)) count ∙ sym (end_of_fields c.in-Value.code (numbers_at (suc (field_count c.in-Value.code)) bytes c.in-Value.next)))
