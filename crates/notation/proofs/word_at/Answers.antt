@@ -1,4 +1,5 @@
 -- The word behind 0x, or the whole.
+use Rattle.std.proofs.Common.{rules}
 use Prim.Native.Nat.{ℕ, ◌+◌}
 use mathlib.Core.Path.{◌≡◌, refl, sym, ap, ◌∙◌}
 use mathlib.Core.Bool.{true, false}
@@ -8,8 +9,7 @@ use lib.ListN.{length, drop}
 use Rattle.notation.specs.Words.{word_in, is_prefixed, Meaning, number, wrong, digits_of, prefixed, meaning_of}
 use Rattle.notation.specs.Places.{located}
 use Rattle.notation.proofs.Words.{Prefix, prefix_split}
-use Rattle.notation.proofs.word_at.Statement.{statement}
-use Rattle.notation.proofs.word_at.Tie as tie
+use Rattle.notation.proofs.word_at.Goals as goal
 
 further : (s : List ℕ) (i : ℕ) → Prefix s i → (m : Meaning) → located (drop (i + 2) s) (i + 2) m ≡ located (drop i s) i m
 further s i p (number n) = rw p.size
@@ -27,20 +27,18 @@ decimal : (s : List ℕ) (i : ℕ) → is_prefixed (word_in (drop i s)) ≡ fals
 unfolding meaning_of
 decimal s i e = rw e
 
-pub word_at_spec : {M : Type 1} → statement M
-word_at_spec =
-    tie.close
-    (tie.spec
-    (λ _ _. tt)
-    (λ c.
-    let a = c.before.before.before.args in
-    let p = prefix_split a.bytes.now a.at (sym c.before.is-prefix.ensures ∙ c.if1.true) in
-    omega arith)
-    (λ _ _. tt)
-    (λ c.
-    let a = c.before.before.before.before.args in
-    c.prefixed-at.ensures ∙ hexadecimal a.bytes.now a.at (sym c.before.before.is-prefix.ensures ∙ c.before.if1.true))
-    (λ _ _. tt)
-    (λ c.
-    let a = c.before.before.before.before.args in
-    c.digits-at.ensures ∙ decimal a.bytes.now a.at (sym c.before.before.is-prefix.ensures ∙ c.before.if1.false)))
+pub overflow_add-at : goal.overflow_add-at
+overflow_add-at c =
+    let a = c.args in
+    let p = prefix_split a.bytes.now a.at (sym c.is_prefix.ensures ∙ c.if-is_prefix.true) in
+    omega arith
+
+pub returns-then-is_prefix : goal.returns-then-is_prefix
+returns-then-is_prefix c =
+    let a = c.args in
+    c.prefixed_at.ensures ∙ hexadecimal a.bytes.now a.at (sym c.is_prefix.ensures ∙ c.if-is_prefix.true)
+
+pub returns : goal.returns
+returns c =
+    let a = c.args in
+    c.digits_at.ensures ∙ decimal a.bytes.now a.at (sym c.is_prefix.ensures ∙ c.if-is_prefix.false)
