@@ -5,7 +5,7 @@ use mathlib.Core.Path.{◌≡◌, refl, sym, ◌∙◌}
 use mathlib.Core.Bool.{true, false}
 use mathlib.Core.List.{List}
 use native.Mathlib.Omega.{arith}
-use borrow.Author.Tests.{not-true, not-false}
+use borrow.Author.Tests.{ne_eqb, eq-eqb}
 use lib.Dec.{eqb}
 use lib.ListN.{length, drop, get_or, drop_of_length-le}
 use Rattle.notation.specs.Places.{line_length}
@@ -28,13 +28,13 @@ pub loop-i-preserved : goal.loop-i-preserved
 loop-i-preserved c =
     let s = c.args.bytes.now in
     let l = c.loop-i in
-    omega (arith, goes s l.i (omega arith) (not-true (eqb (get_or s l.i 0) 10) c.if-bytes-i-ne10.true))
+    omega (arith, goes s l.i (omega arith) (ne_eqb (get_or s l.i 0) 10 c.if-bytes-i-ne10.true))
 
 pub returns-else-bytes-i-ne10 : goal.returns-else-bytes-i-ne10
 returns-else-bytes-i-ne10 c =
     let s = c.args.bytes.now in
     let l = c.loop-i in
-    omega (arith, ends s l.i (omega arith) (not-false (eqb (get_or s l.i 0) 10) c.if-bytes-i-ne10.false))
+    omega (arith, ends s l.i (omega arith) (eq-eqb (get_or s l.i 0) 10 c.if-bytes-i-ne10.false))
 
 pub returns-after-loop-i : goal.returns-after-loop-i
 returns-after-loop-i c =

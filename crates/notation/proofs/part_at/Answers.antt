@@ -19,6 +19,28 @@ use Rattle.notation.specs.Places.{located, Follows, on, done}
 use Rattle.notation.proofs.Reading.{blank_at, end_at, word_here, number_at, wrong_at}
 use Rattle.notation.proofs.part_at.Goals as goal
 
+found_number : (text : List ℕ) (at : ℕ) (m : Meaning) (n next : ℕ) → located text at m ≡ Word.Number n next
+    → (m ≡ number n) × (at + length (word_in text) ≡ next)
+found_number text at (number k) n next e = (cc, cc)
+found_number text at (wrong problem) n next e = never (cc)
+
+found_wrong : (text : List ℕ) (at : ℕ) (m : Meaning) (problem : Problem) → located text at m ≡ Word.Wrong problem → m ≡ wrong problem
+found_wrong text at (number k) problem e = never (cc)
+found_wrong text at (wrong other) problem e = cc
+
+module _ (s : List ℕ) (at : ℕ) (begun : Begun) (h : at < length s) (e : is_blank (get_or s at 0) ≡ false) (f : ends_operation (get_or s at 0) ≡ false) where
+  a_number : (n next : ℕ) {more : Begun} → located (drop at s) at (meaning_of (word_in (drop at s))) ≡ Word.Number n next → more ≡ added begun n
+      → Follows s at begun (On more next)
+  a_number n next m g =
+      let found = found_number (drop at s) at (meaning_of (word_in (drop at s))) n next m in
+      let size : length (word_in (drop at s)) ≡ suc (length (word_in (drop (at + 1) s))) = rw (word_here s at begun h e f) in
+      let further : at < at + length (word_in (drop at s)) = omega arith in
+      rw (g, ← found.1) (on further (number_at s at begun h e f n found.0))
+
+  a_wrong : (problem : Problem) → located (drop at s) at (meaning_of (word_in (drop at s))) ≡ Word.Wrong problem
+      → Follows s at begun (Done (Wrong problem at))
+  a_wrong problem m = done (wrong_at s at begun h e f problem (found_wrong (drop at s) at (meaning_of (word_in (drop at s))) problem m))
+
 pub returns-then-is_blank : goal.returns-then-is_blank
 returns-then-is_blank c =
     let a = c.args in

@@ -17,7 +17,7 @@ use Rattle.notation.proofs.read_on.Given as goal
 
 abbrev pub invariant-loop-i : goal.invariant-loop-i
 invariant-loop-i l =
-    read_from l.initial.so-far [] (drop l.at l.bytes) l.at ≡ read_from l.so_far [] (drop l.i l.bytes) l.i
+    read_from l.initial.so_far [] (drop l.at l.bytes) l.at ≡ read_from l.so_far [] (drop l.i l.bytes) l.i
 
 abbrev pub decreases-loop-i : goal.decreases-loop-i
 decreases-loop-i l =
