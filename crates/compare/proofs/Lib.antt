@@ -1,5 +1,4 @@
 pub mod Left
-pub mod Lent
 pub mod Together
 pub mod Front
 pub mod Passing

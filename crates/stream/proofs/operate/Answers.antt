@@ -7,4 +7,4 @@ pub returns : goal.returns
 unfolding operated
 returns c =
     let one = c.replay_one-t.ensures in
-    rw (← one.value, ← one.room_after, ← one.out_after, c.wrapping_add_u64.ensures)
+    rw (← one.value, ← one.room_after, ← one.out_after, c.wrapping_add_u64.ensures.value)

@@ -1,0 +1,18 @@
+-- Whether bytes are the same. The loop's invariant: those so far are. The measure is how many are left.
+use Rattle.std.proofs.Common.{◌≡◌, ℕ, ◌+◌, ◌-◌, ◌<◌, ◌≤◌, Bool, true, false, ◌&&◌, eqb, List, get_or, refl, subst, ⊎_elim, arith, eqb-true}
+use borrow.Author.Tests.{eqb-false}
+use Rattle.bits.proofs.Cases.{never, below_or_not}
+use Rattle.bits.proofs.Each.{first, second}
+use Rattle.compare.proofs.same_bytes.Given as goal
+
+-- So many bytes are the same.
+abbrev pub Same : List ℕ → ℕ → List ℕ → ℕ → ℕ → Type 0
+Same a at b other i = (j : ℕ) → j < i → get_or a (at + j) 0 ≡ get_or b (other + j) 0
+
+abbrev pub invariant-loop-i : goal.invariant-loop-i
+invariant-loop-i l =
+    (l.same ≡ true → Same l.a l.at l.b l.other l.i) × (l.same ≡ false → Same l.a l.at l.b l.other l.i → ⊥) × (l.i ≤ l.size)
+
+abbrev pub decreases-loop-i : goal.decreases-loop-i
+decreases-loop-i l =
+    l.size - l.i
