@@ -228,6 +228,7 @@ occurs_last : {Such : State → Operation → Type 0} (m : Machine) (list : List
     → Occurs Such m list ⊎ Such (run m list).state t.operation
 unfolding run
 occurs_last m [] t (now is such) = inr such
+occurs_last {Such = Such} m [] t (later rest) = elim rest [ ]
 occurs_last m (x ∷ list) t (now is such) = inl (now is such)
 occurs_last m (x ∷ list) t (later rest) = ⊎_elim (λ o. inl (later o)) (λ such. inr such) (occurs_last (stepped m x) list t rest)
 
