@@ -32,7 +32,7 @@ use Rattle.brb.specs.Recordings.{recorded_result}
 use Rattle.demands.specs.Unchanged.{unchanged, unchanged_recorded}
 use Rattle.demands.specs.First.{First, here, later, none, Accepted, done, undefined, trap2, trap3, AnswersBy, refuses, accepts}
 
--- ---- refusal-exact: the number is that of the first line of the table whose condition holds, and 0 if none does
+-- ---- refusal_exact: the number is that of the first line of the table whose condition holds, and 0 if none does
 
 pub first : (lines : List (ℕ × Bool)) → First lines (first_that lines)
 first [] = none
@@ -91,7 +91,7 @@ step_number s o cycles room = go (ℕ_discrete (refusal_of s o (length room)) 0)
     go (yes h) = rw (accepted_step s o cycles room h) (accepts (rw h at (refusal_exact s o (length room))) (accepted_number s o room))
     go (no h) = rw (refused_step s o cycles room h) (refuses (refusal_exact s o (length room)) h)
 
--- ---- refused-changes-nothing
+-- ---- refused_changes_nothing
 
 no_refusal : {n : ℕ} → Accepted n → 1 ≤ n → n ≤ 8 → ⊥
 no_refusal done l u = omega arith

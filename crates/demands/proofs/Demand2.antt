@@ -1,6 +1,6 @@
 -- Demand 2, on one operation: what an accepted operation does to the list of records, what a new record holds, and what a
 -- read shows.
-use Prim.Native.Nat.{ℕ, ◌+◌, ◌*◌, ◌^◌, ◌/◌, ◌%◌, ◌≤◌, ◌<◌}
+use Prim.Native.Nat.{ℕ, ◌+◌, ◌*◌, ◌/◌, ◌%◌, ◌≤◌, ◌<◌}
 use mathlib.Core.Path.{◌≡◌, refl, ap, ◌∙◌}
 use mathlib.Core.Bool.{Bool, true, false, cond, ◌&&◌, not}
 use mathlib.Core.List.{List}
@@ -42,7 +42,7 @@ use Rattle.recorder.specs.Step.{accepted, step_of}
 use Rattle.recorder.proofs.Laws.{accepted_step, refused_step}
 use Rattle.demands.specs.After.{records_after, records_left, IsEvent, branch, exception, return, halt, resume, entered, event_of, IsAccess, read, write, iall}
 
--- ---- inside-prohibited: an event wholly inside a prohibited region changes no record
+-- ---- inside_prohibited: an event wholly inside a prohibited region changes no record
 
 never_wanted : {A : Type 0} (t : Bool) (new other : A) → cond (t && false) new other ≡ other
 never_wanted true new other = refl
@@ -84,7 +84,7 @@ inside_prohibited s {o} cycles room e source target = go (ℕ_discrete (refusal_
         )
     go (no h) = (rw (refused_step s o cycles room h), rw (refused_step s o cycles room h))
 
--- ---- hidden-address-zero: a record holds 0 where the address of its prohibited side would stand
+-- ---- hidden_address_zero: a record holds 0 where the address of its prohibited side would stand
 
 -- A record that was made is the one defined.
 made_record : (s : State) (r : Running) (wanted : Bool) (e : Event) (new : Record) → event_effect s wanted e r ≡ Push new → new ≡ record_of s r e
@@ -180,7 +180,7 @@ newest s o cycles room h =
     (λ new p. start-below s a.is_sound (event_sized s (pushed_by s o r new p) a.was_reset))
     (rw size at a.room_enough))
 
--- ---- read-shows: what a record register shows is number m + 32 × BANK of the list
+-- ---- read_shows: what a record register shows is number m + 32 × BANK of the list
 
 record_register : (s : State) (list : List Record) (r : ℕ) → 32 ≤ r → register_value s list r ≡ shown_number s list r
 unfolding register_value

@@ -1,14 +1,14 @@
 -- Request Six on one operation: what a freeze sets, that it sets nothing else, and which operations clear PAUSED again.
 use Prim.Native.Nat.{ℕ, ◌/◌, ◌%◌}
 use native.Mathlib.Omega.{arith}
-use mathlib.Core.Path.{◌≡◌, refl, sym, ap, ◌∙◌}
+use mathlib.Core.Path.{◌≡◌, refl, ap, ◌∙◌}
 use mathlib.Core.Bool.{Bool, true, false, cond, ◌&&◌, not}
 use mathlib.Core.List.{List}
 use borrow.Author.Tests.{eqb-true}
 use lib.Bits.{bit_and, and_shr, and_mod, and_mask}
 use lib.Dec.{eqb}
 use lib.ListN.{length}
-use Rattle.bits.specs.Bits.{is_set, with_bit}
+use Rattle.bits.specs.Bits.{is_set}
 use Rattle.bits.proofs.Cases.{never}
 use Rattle.bits.proofs.WithBit.{is_set_lem, others_stay}
 use Rattle.state.specs.declared.State.{State}
@@ -33,7 +33,7 @@ use Rattle.recorder.specs.Result.{together}
 use Rattle.recorder.specs.Step.{accepted, step_of}
 use Rattle.recorder.proofs.Laws.{accepted_step}
 
--- ---- freeze-sets: what a freeze sets, and nothing else
+-- ---- freeze_sets: what a freeze sets, and nothing else
 
 -- An accepted freeze answers "done" and leaves the room as it was. The running count takes its cycles; the next count becomes unknown where
 -- it began at a prohibited level or in Debug state, and on no other ground. Where the overflow freezes, the state is frozen at its time; else it is as it was.
@@ -66,7 +66,7 @@ pub record Frozen (s t : State) (time : ℕ) : Type 0 where
 pub frozen : (s : State) (time : ℕ) → Frozen s (frozen_at time s) time
 frozen s time = record { paused = is_set_lem s.brbfcr; other_bits = others_stay s.brbfcr; its_time = refl; nothing_else = refl }
 
--- ---- which-clears: PAUSED is cleared by a reset, or by a performed write of BRBFCR_EL1 with 0 in bit 7
+-- ---- which_clears: PAUSED is cleared by a reset, or by a performed write of BRBFCR_EL1 with 0 in bit 7
 
 pub data Clearing (s : State) : Operation → Type 0 where
   a_reset : {size v1p1 : ℕ} → Clearing s (Reset size v1p1)

@@ -2,8 +2,8 @@
 -- holds, and what demands 2 and 3 say of runs, they say of batches.
 use Prim.Native.Nat.{ℕ, zero, suc, ◌*◌, ◌≤◌, ◌<◌}
 use native.Mathlib.Omega.{arith}
-use mathlib.Core.Path.{◌≡◌, refl, sym, ap, subst, ◌∙◌}
-use mathlib.Core.Bool.{Bool, true, false, cond}
+use mathlib.Core.Path.{◌≡◌, refl, sym, ap, subst}
+use mathlib.Core.Bool.{Bool, true, false}
 use mathlib.Core.Logic.{⊎_elim}
 use mathlib.Core.List.{List, [], ◌∷◌, map}
 use lib.ListN.{length, length-map}
@@ -11,14 +11,13 @@ use borrow.Author.Tests.{le-leb, lt-leb, le-ltb}
 use Rattle.bits.specs.Bits.{one_of}
 use Rattle.bits.proofs.Cases.{below_or_not}
 use Rattle.answer.specs.declared.Answer.{Answer}
-use Rattle.answer.specs.declared.Returned.{Returned}
 use Rattle.answer.specs.Answer.{returned}
 use Rattle.number.specs.Number.{written}
 use Rattle.number.proofs.Laws.{Bytes}
 use Rattle.state.specs.declared.State.{State}
 use Rattle.state.specs.Parts.{state_numbers}
 use Rattle.state.specs.Sound.{sound}
-use Rattle.state.specs.Words.{loaded, stored}
+use Rattle.state.specs.Words.{stored}
 use Rattle.state.proofs.Laws.{loaded-stored, stored_again}
 use Rattle.operation.specs.declared.Operation.{Operation}
 use Rattle.operation.specs.Refusal.{unknown_code}
@@ -37,11 +36,11 @@ use Rattle.batch.specs.Batch.{batched, steps, in_numbers, batch_of}
 use Rattle.recording.proofs.Run.{left as from, all_left, none_left, one_left}
 use Rattle.brb.specs.Face.{step_result}
 use Rattle.brb.specs.Recordings.{recorded_result, batch_result}
-use Rattle.demands.specs.First.{First, here, later, none, Accepted, done, undefined, trap2, trap3, AnswersBy, refuses, accepts}
+use Rattle.demands.specs.First.{First, here, later, none, done, undefined, trap2, trap3, AnswersBy, refuses, accepts}
 use Rattle.demands.proofs.Demand1.{step_number}
 use Rattle.history.specs.History.{Machine, stepped, run}
 use Rattle.history.proofs.Sound.{sound_kept}
-use Rattle.face.specs.Calls.{Lent, step_call, recorded_call, left, Called, no_call, called_first, calls_along, in_pairs, timed, holding, with_next}
+use Rattle.face.specs.Calls.{Lent, step_call, Called, called_first, calls_along, in_pairs, timed, holding, with_next}
 use Rattle.face.proofs.Refuses.{known_code}
 use Rattle.face.proofs.Runs.{call_left, recorded_call_lem}
 

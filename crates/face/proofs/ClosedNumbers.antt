@@ -1,5 +1,5 @@
 -- Closed: each number is answered for some input, by the step, by the recorded step, by a batch, and by decoding and sums, whose 9 no
--- computed run reaches (`sum.proofs.Laws.nine-is-met`).
+-- computed run reaches (`sum.proofs.Laws.nine_is_met`).
 use Prim.Native.Nat.{ℕ, suc}
 use mathlib.Core.Path.{◌≡◌, refl}
 use mathlib.Core.List.{List, [], ◌∷◌, map}

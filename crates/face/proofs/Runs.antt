@@ -1,7 +1,7 @@
 -- Any sequence of calls on one lent memory is the run of the operations that they stand for: what demands 2 and 3 say of runs, they
 -- say of what a host sees.
-use Prim.Native.Nat.{ℕ, zero, suc, ◌≤◌}
-use mathlib.Core.Path.{◌≡◌, refl, sym, ap, ◌∙◌}
+use Prim.Native.Nat.{ℕ, ◌≤◌}
+use mathlib.Core.Path.{◌≡◌, refl, ap, ◌∙◌}
 use mathlib.Core.Bool.{true}
 use mathlib.Core.List.{List, [], ◌∷◌, map}
 use lib.ListN.{length, replicate}
@@ -31,7 +31,7 @@ use Rattle.recording.specs.Operations.{Holds, ends, reads}
 use Rattle.brb.specs.declared.BrbRecorded.{BrbRecorded}
 use Rattle.brb.specs.Face.{step_result}
 use Rattle.brb.specs.Recordings.{recorded_result}
-use Rattle.history.specs.History.{Timed, Machine, stepped, run, shown}
+use Rattle.history.specs.History.{Machine, stepped, run, shown}
 use Rattle.history.proofs.Sound.{sound_kept, sound-run}
 use Rattle.face.specs.Calls.{Lent, step_call, recorded_call, left, calls, Position, recorded_calls, calls_through, operations_at, timed, holding, with_next, records_in}
 

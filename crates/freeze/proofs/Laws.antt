@@ -1,5 +1,5 @@
 -- When an overflow freezes, in document 02's words; what it leaves; and the difference of a count and an offset.
-use Rattle.std.proofs.Common.{◌≡◌, ℕ, ◌+◌, ◌-◌, ◌%◌, ◌^◌, ◌<◌, ◌≤◌, Bool, true, false, cond, not, ◌&&◌, ◌||◌, ◌≢◌, ◌↔◌, refl, arith, eq-eqb, ne_eqb}
+use Rattle.std.proofs.Common.{◌≡◌, ℕ, ◌-◌, ◌^◌, ◌<◌, ◌≤◌, Bool, true, false, cond, not, ◌&&◌, ◌||◌, ◌≢◌, ◌↔◌, refl, arith, eq-eqb, ne_eqb}
 use Rattle.bits.specs.Bits.{part}
 use Rattle.bits.proofs.Cases.{never}
 use Rattle.bits.proofs.Each.{each}

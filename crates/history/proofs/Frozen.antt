@@ -18,12 +18,12 @@ use Rattle.operation.specs.declared.Operation.TheVariants.{Freeze}
 use Rattle.operation.specs.Clause.{changed}
 use Rattle.operation.proofs.Laws.{Accepts, accepts_if}
 use Rattle.change.specs.Change.{cleared_paused, effect_of}
-use Rattle.change.proofs.Recorded.{Recorded, branch, exception, return, halt, resume, Pushes, pushes, recorded_exactly}
+use Rattle.change.proofs.Recorded.{Recorded, branch, exception, return, halt, resume, pushes, recorded_exactly}
 use Rattle.recorder.specs.Step.{accepted, step_of}
 use Rattle.history.specs.History.{Timed, Machine, stepped, is_accepted, effect_in}
 use Rattle.history.specs.Events.{is_push, makes_record, how_many}
 
--- The operation is accepted and clears PAUSED: a reset, or a performed write of BRBFCR_EL1 with 0 in bit 7 (`demands.proofs.Freeze.which-clears`).
+-- The operation is accepted and clears PAUSED: a reset, or a performed write of BRBFCR_EL1 with 0 in bit 7 (`demands.proofs.Freeze.which_clears`).
 abbrev pub clears : Machine → Timed → Bool
 clears m t = is_accepted m t && cleared_paused m.state t.operation
 
@@ -67,7 +67,7 @@ still_paused m t paused kept = go (is_accepted m t) refl
     go true e = rw e (still (PAUSED m.state) (PAUSED (changed m.state t.operation)) paused (rw e at kept))
     go false e = rw e paused
 
--- ---- frozen-until
+-- ---- frozen_until
 
 none_of : (b : Bool) (others : ℕ) → cond b 1 0 + others ≡ 0 → (b ≡ false) × (others ≡ 0)
 none_of true others h = absurd (omega arith)

@@ -1,6 +1,6 @@
 -- Request Seven over sequences: the round buffer shows the records that the plain reading of document 01 shows, after any sequence from
 -- a reset, and so answers every read alike.
-use Prim.Native.Nat.{ℕ, zero, suc, ◌-◌, ◌≤◌, ◌<◌}
+use Prim.Native.Nat.{ℕ, zero, suc, ◌-◌, ◌≤◌}
 use native.Mathlib.Omega.{arith}
 use mathlib.Core.Path.{◌≡◌, refl, sym, ap, ◌∙◌}
 use mathlib.Core.Bool.{Bool, true, false}
@@ -21,7 +21,7 @@ use Rattle.operation.specs.Clause.{does, changed}
 use Rattle.operation.proofs.Laws.{accepts_if}
 use Rattle.change.specs.Change.{passed, effect_of, answer_of}
 use Rattle.recorder.specs.Step.{accepted, step_of}
-use Rattle.history.specs.History.{Timed, Machine, stepped, run, shown, is_accepted, effect_in, FromReset, reset, unset}
+use Rattle.history.specs.History.{Timed, Machine, stepped, run, shown, is_accepted, FromReset, reset, unset}
 use Rattle.history.specs.Plain.{shifted, plain_after, plain_stepped, plain_run}
 use Rattle.history.proofs.Allowed.{Allowed, keeps, pushes, clears, resets_to, allowed}
 

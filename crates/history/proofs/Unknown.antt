@@ -1,15 +1,14 @@
 -- When a record's count is unknown, and what it is where it is known: by the operations of the run alone, without flag or running count.
-use Prim.Native.Nat.{ℕ, zero, suc, ◌+◌, ◌≤◌, ◌<◌, min}
+use Prim.Native.Nat.{ℕ, ◌+◌, ◌≤◌, ◌<◌, min}
 use native.Mathlib.Omega.{arith}
 use mathlib.Core.Path.{◌≡◌, refl, sym, ap, ◌∙◌}
-use mathlib.Core.Bool.{Bool, true, false, cond, ◌&&◌, ◌||◌, not}
+use mathlib.Core.Bool.{Bool, true, false, cond}
 use mathlib.Core.Logic.{◌↔◌, ◌⊎◌, inl, inr, ⊎_elim}
 use mathlib.Core.List.{List, [], ◌∷◌, ◌++◌, append-nil}
 use borrow.Author.Tests.{eq-eqb, eqb-true, not-true}
 use lib.Dec.{eqb}
 use lib.ListN.{length}
 use Rattle.bits.proofs.Cases.{never, either, or_true, below_or_not}
-use Rattle.bits.proofs.Each.{each}
 use Rattle.count.specs.Count.{largest_count, encoded}
 use Rattle.count.proofs.Laws.{above, encoded_fits}
 use Rattle.state.specs.declared.State.{State}
@@ -22,18 +21,17 @@ use Rattle.room.specs.declared.Effect.TheVariants.{Keep, Push, Clear, ResetTo}
 use Rattle.event.specs.declared.Event.{Event}
 use Rattle.event.specs.Event.{count_unknown, packed, BRBINF, record_of}
 use Rattle.operation.specs.declared.Operation.{Operation}
-use Rattle.operation.specs.declared.Operation.TheVariants.{Reset}
 use Rattle.operation.specs.Operation.{code_of}
 use Rattle.operation.proofs.Size.{Resets, is_reset_lem, no_reset, resets, size_kept}
 use Rattle.operation.proofs.Laws.{accepts_if}
-use Rattle.change.specs.Change.{occasion, passed, effect_of, running_after}
+use Rattle.change.specs.Change.{occasion, passed, effect_of}
 use Rattle.change.proofs.Laws.{of_effect}
 use Rattle.change.proofs.Occasions.{Occasion, is_occasion, which_occasion}
 use Rattle.recorder.specs.Step.{accepted, step_of}
 use Rattle.history.specs.History.{Timed, Machine, stepped, run, is_accepted, effect_in, CCU, CC, FromReset, reset, unset, reset_with, accepted_cycles}
 use Rattle.history.specs.Events.{is_push, is_reset, makes_record, restarts, how_many, Makes, EndsMaking, Occurs, now, later, IsReset, a_reset, CountUnknown, counting_off, no_record, on_occasion, SinceRecord}
 use Rattle.history.proofs.Allowed.{Allowed, keeps, pushes, clears, resets_to, allowed}
-use Rattle.history.proofs.Counts.{run_parts, one_more, none_does}
+use Rattle.history.proofs.Counts.{run_parts, none_does}
 
 -- ---- one step
 

@@ -1,5 +1,5 @@
 -- The word at a place of a text, byte for byte, and digits behind a value: what each turn of the reader of a number keeps.
-use Prim.Native.Nat.{ℕ, zero, suc, ◌+◌, ◌≤◌, ◌<◌}
+use Prim.Native.Nat.{ℕ, suc, ◌+◌, ◌≤◌, ◌<◌}
 use mathlib.Core.Path.{◌≡◌, refl, sym, ap, ◌∙◌}
 use mathlib.Core.Bool.{Bool, true, false, cond, ◌&&◌}
 use mathlib.Core.Logic.{⊎_elim}
@@ -15,10 +15,8 @@ use Rattle.bits.specs.Bits.{one_of}
 use Rattle.bits.proofs.Cases.{below_or_not, either, never}
 use Rattle.text.specs.Text.{bytes_of_text}
 use Rattle.notation.specs.declared.Appended.{Appended}
-use Rattle.notation.specs.declared.Appended.TheVariants as Appended
 use Rattle.notation.specs.declared.Problem.TheVariants.{NoNumber, TooLarge}
 use Rattle.notation.specs.declared.Word.{Word}
-use Rattle.notation.specs.declared.Word.TheVariants as Word
 use Rattle.notation.specs.Text.{digit_value, appended}
 use Rattle.notation.specs.Words.{separating, word_in, is_prefixed, Meaning, number, wrong, onward, base_of, digits_of}
 use Rattle.notation.specs.Places.{located}

@@ -3,7 +3,6 @@ use Rattle.std.specs.Prelude.{ℕ, suc, ◌+◌, ◌<◌, ◌≡◌, cond, List,
 use Rattle.notation.specs.declared.Begun.{Begun}
 use Rattle.notation.specs.declared.Step.{Step}
 use Rattle.notation.specs.declared.Word.{Word}
-use Rattle.notation.specs.declared.Word.TheVariants as Word
 use Rattle.notation.specs.declared.Part.{Part}
 use Rattle.notation.specs.declared.Part.TheVariants.{On, Done}
 use Rattle.notation.specs.Words.{word_in, Meaning, number, wrong}

@@ -3,7 +3,6 @@ use Rattle.std.specs.Prelude.{ℕ, ◌+◌, ◌-◌, ◌^◌, ◌≤◌, min, �
 use Rattle.operation.specs.Operation.{last_code}
 use Rattle.recording.specs.declared.Numbers.{Numbers}
 use Rattle.recording.specs.Recording.{field_count, numbers, numbers_of}
-use Rattle.notation.specs.declared.Problem.{Problem}
 use Rattle.notation.specs.declared.Problem.TheVariants.{Code, Count}
 use Rattle.notation.specs.declared.Begun.{Begun}
 use Rattle.notation.specs.declared.Step.{Step}

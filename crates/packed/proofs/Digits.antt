@@ -1,23 +1,21 @@
 -- A number in decimal, as `list` writes it, is a word, and the word is the number.
-use Prim.Native.Nat.{ℕ, zero, suc, ◌+◌, ◌*◌, ◌-◌, ◌^◌, ◌/◌, ◌%◌, ◌≤◌, ◌<◌}
-use mathlib.Core.Path.{◌≡◌, refl, sym, ap, ◌∙◌}
-use mathlib.Core.Bool.{Bool, true, false, cond, ◌&&◌}
+use Prim.Native.Nat.{ℕ, zero, suc, ◌+◌, ◌*◌, ◌^◌, ◌/◌, ◌%◌, ◌≤◌, ◌<◌}
+use mathlib.Core.Path.{◌≡◌, refl, ap, ◌∙◌}
+use mathlib.Core.Bool.{Bool, true, false, ◌&&◌}
 use mathlib.Core.Logic.{⊎_elim}
 use mathlib.Core.List.{List, [], ◌∷◌, ◌++◌}
-use native.Mathlib.Nat.{pow-suc, add_assoc, mul_assoc}
+use native.Mathlib.Nat.{pow-suc}
 use native.Mathlib.Omega.{arith}
 use borrow.Author.Tests.{lt-ltb, le-ltb, ne_eqb}
 use lib.Dec.{ltb, eqb}
-use lib.ListN.{length, get_or, length-append}
-use Rattle.bits.specs.Bits.{one_of}
+use lib.ListN.{length}
 use Rattle.bits.proofs.Cases.{below_or_not, either, never}
-use Rattle.text.specs.Text.{bytes_of_text, digit, digits, decimal_count, decimal}
+use Rattle.text.specs.Text.{digit, digits, decimal_count, decimal}
 use Rattle.text.proofs.Laws.{length_digits}
 use Rattle.notation.specs.declared.Appended.{Appended}
 use Rattle.notation.specs.declared.Appended.TheVariants.{Value, Over}
 use Rattle.notation.specs.Text.{digit_value, appended}
-use Rattle.notation.specs.Words.{separating, Meaning, number, wrong, onward, digits_of, is_prefixed, meaning_of}
-use Rattle.notation.proofs.Words.{above_plain}
+use Rattle.notation.specs.Words.{number, onward, digits_of, is_prefixed, meaning_of}
 
 -- Digits behind digits.
 behind : (base m : ℕ) (w rest : List ℕ)

@@ -1,10 +1,10 @@
 -- Texts and what they hold, computed.
 use mathlib.Core.Path.{◌≡◌, refl}
-use mathlib.Core.List.{List, [], ◌∷◌}
+use mathlib.Core.List.{[], ◌∷◌}
 use Rattle.text.specs.Text.{bytes_of_text, digits, decimal_count, decimal}
 use Rattle.recording.specs.Recording.{field_count, numbers}
 use Rattle.notation.specs.Text.{spaced, numbers_line}
-use Rattle.notation.specs.declared.Problem.TheVariants.{NoNumber, TooLarge, Code, Count}
+use Rattle.notation.specs.declared.Problem.TheVariants.{NoNumber, TooLarge, Count}
 use Rattle.notation.specs.Words.{digits_of, is_prefixed, meaning_of}
 use Rattle.notation.specs.Reading.{added, ended_at, read_from}
 use Rattle.packed.specs.Content.{uncommented, pieces, complete, stopped, content_of_all, content_of, numbers_lines}

@@ -1,18 +1,17 @@
 -- What the reader of an operation answers stands in front of what the rest of the text holds: read from operation to
 -- operation, a text gives what it holds.
 use Prim.Native.Nat.{ℕ, ◌+◌}
-use mathlib.Core.Path.{◌≡◌, refl, sym, ap, ◌∙◌}
-use mathlib.Core.Bool.{Bool, true, false, ◌||◌}
-use mathlib.Core.Logic.{◌⊎◌, inl, inr, ⊎_elim}
+use mathlib.Core.Path.{◌≡◌, refl, sym, ◌∙◌}
+use mathlib.Core.Bool.{true, false, ◌||◌}
+use mathlib.Core.Logic.{⊎_elim}
 use mathlib.Core.List.{List, [], ◌∷◌, ◌++◌}
 use borrow.Author.Tests.{eqb-true}
 use lib.Dec.{ltb, eqb}
 use lib.ListN.{length, drop}
-use Rattle.bits.proofs.Cases.{either, never, one_of_two}
+use Rattle.bits.proofs.Cases.{either, one_of_two}
 use Rattle.operation.specs.Operation.{last_code}
 use Rattle.recording.specs.Recording.{field_count}
 use Rattle.notation.specs.declared.Begun.{Begun}
-use Rattle.notation.specs.declared.Problem.{Problem}
 use Rattle.notation.specs.declared.Step.{Step}
 use Rattle.notation.specs.declared.Step.TheVariants.{More}
 use Rattle.notation.specs.Words.{is_blank, ends_operation, Meaning, number, wrong, meaning_of}

@@ -1,24 +1,20 @@
 -- What `list --numbers` prints of a recording is packed to the recording, byte for byte.
-use Prim.Native.Nat.{ℕ, zero, suc, ◌+◌}
+use Prim.Native.Nat.{ℕ}
 use mathlib.Core.Path.{◌≡◌, refl, sym, ap, ◌∙◌}
-use mathlib.Core.Bool.{Bool, true, false, ◌||◌}
+use mathlib.Core.Bool.{false}
 use mathlib.Core.List.{List, [], ◌∷◌, ◌++◌, map, append_assoc}
-use lib.Dec.{eqb}
-use lib.ListN.{length}
-use Rattle.bits.proofs.Cases.{never}
 use Rattle.number.proofs.Laws.{Bytes}
-use Rattle.text.specs.Text.{bytes_of_text, decimal}
+use Rattle.text.specs.Text.{decimal}
 use Rattle.recording.specs.declared.Numbers.{Numbers}
 use Rattle.recording.specs.Recording.{own_numbers}
 use Rattle.recording.specs.Operations.{as_read, recording_bytes, Holds, ends, reads}
 use Rattle.recording.proofs.Laws.{Writable, AllWritable, what_was_read, whole_recording}
 use Rattle.notation.specs.Text.{spaced, numbers_line}
-use Rattle.notation.specs.Words.{ends_operation}
 use Rattle.notation.specs.Reading.{none_begun, ended_at, read_from}
-use Rattle.notation.specs.declared.Step.TheVariants.{More, Operation}
-use Rattle.packed.specs.Content.{uncommented, on_first, pieces, complete, Content, in_front, at_end, content_of_all, content_of, packed_bytes, numbers_lines}
+use Rattle.notation.specs.declared.Step.TheVariants.{Operation}
+use Rattle.packed.specs.Content.{uncommented, pieces, complete, in_front, at_end, content_of_all, content_of, packed_bytes, numbers_lines}
 use Rattle.packed.proofs.Pieces.{uncommented_inside, pieces_before}
-use Rattle.packed.proofs.Lines.{added_all, read_line, line_made, Inside, nothing, more, inside_line}
+use Rattle.packed.proofs.Lines.{read_line, line_made, Inside, inside_line}
 
 -- What a text holds that has a line in front of it.
 with_line : (w rest : List ℕ) → Inside w

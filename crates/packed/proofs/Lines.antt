@@ -1,24 +1,21 @@
 -- A line of `list --numbers` is read as its operation.
-use Prim.Native.Nat.{ℕ, zero, suc, ◌+◌, ◌^◌, ◌≤◌, ◌<◌}
-use mathlib.Core.Path.{◌≡◌, refl, sym, ap, ◌∙◌}
-use mathlib.Core.Bool.{Bool, true, false}
-use mathlib.Core.Logic.{⊎_elim}
+use Prim.Native.Nat.{ℕ, zero, suc, ◌+◌, ◌≤◌, ◌<◌}
+use mathlib.Core.Path.{◌≡◌, refl, ◌∙◌}
+use mathlib.Core.Bool.{false}
 use mathlib.Core.List.{List, [], ◌∷◌, ◌++◌, append_assoc, append-nil}
 use native.Mathlib.Omega.{arith}
 use borrow.Author.Tests.{ne_eqb}
-use lib.ListN.{length, get_or}
-use Rattle.bits.proofs.Cases.{never}
-use Rattle.text.specs.Text.{bytes_of_text, decimal}
+use lib.ListN.{length}
+use Rattle.text.specs.Text.{decimal}
 use Rattle.operation.specs.Operation.{last_code}
 use Rattle.recording.specs.declared.Numbers.{Numbers}
 use Rattle.recording.specs.Recording.{field_count, numbers, own_numbers}
 use Rattle.recording.specs.Operations.{as_read}
 use Rattle.recording.proofs.Laws.{Words, Writable}
 use Rattle.notation.specs.declared.Begun.{Begun}
-use Rattle.notation.specs.declared.Step.{Step}
 use Rattle.notation.specs.declared.Step.TheVariants.{More, Operation}
 use Rattle.notation.specs.Text.{spaced}
-use Rattle.notation.specs.Words.{is_blank, ends_operation, number, meaning_of}
+use Rattle.notation.specs.Words.{ends_operation, number, meaning_of}
 use Rattle.notation.specs.Reading.{none_begun, added, ended_at, read_from}
 use Rattle.packed.proofs.Digits.{Plain, none, byte, plain_decimal, some_decimal, decimal_number}
 

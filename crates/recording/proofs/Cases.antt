@@ -3,15 +3,11 @@ use Prim.Native.Nat.{ℕ, zero, suc, ◌≤◌}
 use mathlib.Core.Path.{◌≡◌, refl}
 use mathlib.Core.Bool.{Bool, true, ◌&&◌}
 use mathlib.Core.List.{List, [], ◌∷◌}
-use mathlib.Core.Logic.{⊎_elim}
 use native.Mathlib.Omega.{arith}
 use borrow.Author.Tests.{leb-true}
 use lib.Dec.{leb}
 use lib.ListN.{get_or}
-use denote.Enum.Declared.{tag_of}
-use types.Run.{OneOf}
 use Rattle.bits.proofs.Each.{each}
-use Rattle.number.specs.contracts.Found.{the_type}
 use Rattle.number.specs.declared.Found.{Found}
 use Rattle.number.specs.declared.Found.TheVariants.{Value, Malformed, Ended}
 use Rattle.recording.specs.Recording.{field_counts, field_count}

@@ -5,17 +5,16 @@ use mathlib.Core.List.{List, [], ◌∷◌, ◌++◌, map, append_assoc}
 use Prim.Native.Nat.{ℕ, zero, suc, ◌+◌, ◌^◌, ◌≤◌, ◌<◌}
 use native.Mathlib.Nat.{add-zero, add_assoc}
 use native.Mathlib.Omega.{arith}
-use borrow.Author.Tests.{lt-ltb, le-ltb, le-leb, lt-leb}
+use borrow.Author.Tests.{lt-ltb, le-ltb}
 use lib.ListN.{length, take, drop, get_or, length-append, length-drop, drop_of_length-le}
 use lib.Seq.{drop-drop, drop-append_seam, length-take-le}
 use Rattle.bits.proofs.Cases.{below_or_not}
 use Rattle.number.specs.declared.Found.{Found}
 use Rattle.number.specs.declared.Found.TheVariants.{Value, Malformed, Ended}
-use Rattle.number.specs.Number.{number_in, number_at, bytes_in, bytes_of}
-use Rattle.number.proofs.Laws.{read_written, what_reads, length_of, Bytes}
+use Rattle.number.specs.Number.{number_at, bytes_of}
+use Rattle.number.proofs.Laws.{read_written, what_reads, Bytes}
 use Rattle.operation.specs.Operation.{last_code}
 use Rattle.recording.specs.declared.Numbers.{Numbers}
-use Rattle.recording.specs.declared.Reading.{Reading}
 use Rattle.recording.specs.declared.Reading.TheVariants.{Operation}
 use Rattle.recording.specs.Recording.{field_count, Several, got, bad, in_front, then_read, numbers_at, numbers_of, with_fields, after_code, operation_at, bytes_of_all, own_numbers, operation_bytes}
 use Rattle.recording.specs.Operations.{as_read, recording_bytes, Holds, ends, reads}

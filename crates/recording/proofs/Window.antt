@@ -5,20 +5,20 @@ use native.Mathlib.Omega.{arith}
 use mathlib.Core.Path.{◌≡◌, refl, sym, ap, ◌∙◌}
 use mathlib.Core.Bool.{Bool, true, false, cond}
 use mathlib.Core.Logic.{◌⊎◌, inl, inr, ⊎_elim}
-use mathlib.Core.List.{List, [], ◌∷◌, ◌++◌}
+use mathlib.Core.List.{List, ◌++◌}
 use lib.Dec.{ltb, leb}
 use lib.ListN.{length, drop, length-drop}
 use borrow.Author.Tests.{le-leb, lt-leb}
 use Rattle.bits.proofs.Cases.{never, below_or_not}
 use Rattle.number.specs.declared.Found.{Found}
 use Rattle.number.specs.declared.Found.TheVariants.{Value, Malformed, Ended}
-use Rattle.number.specs.Number.{number_at, found_refusal}
-use Rattle.number.proofs.Window.{moved, number_moved, Reach, reach, number_window}
+use Rattle.number.specs.Number.{number_at}
+use Rattle.number.proofs.Window.{moved, number_moved, reach, number_window}
 use Rattle.operation.specs.Operation.{last_code}
 use Rattle.recording.specs.declared.Numbers.{Numbers}
 use Rattle.recording.specs.declared.Reading.{Reading}
 use Rattle.recording.specs.declared.Reading.TheVariants.{Operation, Refused}
-use Rattle.recording.specs.Recording.{field_count, Several, got, bad, in_front, then_read, numbers_at, numbers_of, with_fields, after_code, operation_at}
+use Rattle.recording.specs.Recording.{field_count, Several, got, bad, in_front, then_read, numbers_at, with_fields, after_code, operation_at}
 use Rattle.recording.proofs.Cases.{fields_at_most}
 use Rattle.recording.proofs.Laws.{front_inv, then_inv, fields_inv}
 

@@ -1,6 +1,6 @@
 -- The next operation of a replay through buffers is a turn of a replay whose input comes in pieces, and its line stands behind
 -- the others.
-use Rattle.std.proofs.Common.{◌≡◌, ℕ, ◌+◌, ◌<◌, ◌≤◌, Bool, true, false, not, ltb, leb, List, [], ◌++◌, length, take, drop, sym, refl, ap, ◌∙◌, subst, arith, length-drop, length-take-le, drop-drop, le-ltb, le-leb}
+use Rattle.std.proofs.Common.{◌≡◌, ℕ, ◌+◌, ◌<◌, ◌≤◌, true, false, not, List, ◌++◌, length, take, drop, sym, refl, ap, ◌∙◌, arith, length-drop, length-take-le, drop-drop, le-ltb, le-leb}
 use borrow.Author.Tests.{lt-leb, not-true, not-false}
 use Rattle.number.specs.Number.{written}
 use Rattle.recording.specs.RecordedStep.{Recorded, recorded_step, stops_reading}
@@ -9,7 +9,7 @@ use Rattle.line.specs.Turn.{turn_of}
 use Rattle.line.specs.Pieces.{Enough, Turns, replays, stops}
 use Rattle.line.proofs.Pieces.{moved_step, step_moved}
 use Rattle.stream.specs.declared.Progress.{Progress}
-use Rattle.stream.specs.Stream.{Standing, operated, next, unread_of}
+use Rattle.stream.specs.Stream.{operated, next, unread_of}
 
 module _ (room input output : List ℕ) (p : Progress) (there : p.at < p.end) (within : p.end ≤ length input) where
   -- The recorded step at the front of the unread bytes, and where it goes on in the buffer.

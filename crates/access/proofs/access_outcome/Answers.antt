@@ -1,5 +1,4 @@
 -- How an access ends, as defined: the tests are made in the definition's order, and each way out knows those before it.
-use Rattle.std.proofs.Common.{rules}
 use Rattle.access.specs.Access.{outcome}
 use Rattle.access.proofs.access_outcome.Goals as goal
 

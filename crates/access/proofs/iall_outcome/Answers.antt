@@ -1,5 +1,4 @@
 -- How BRB IALL ends, as defined.
-use Rattle.std.proofs.Common.{rules}
 use Rattle.access.specs.Access.{iall_outcome}
 use Rattle.access.proofs.iall_outcome.Goals as goal
 

@@ -1,5 +1,4 @@
 -- How a read ends, as defined: the outcome at its n-bit.
-use Rattle.std.proofs.Common.{rules}
 use Rattle.access.specs.Access.{read_outcome}
 use Rattle.access.proofs.read_outcome.Goals as goal
 

@@ -1,5 +1,4 @@
 -- How a write ends, as defined: the outcome at its n-bit.
-use Rattle.std.proofs.Common.{rules}
 use Rattle.access.specs.Access.{write_outcome}
 use Rattle.access.proofs.write_outcome.Goals as goal
 

@@ -1,5 +1,4 @@
 -- One register of a bank, or a refusal, as defined.
-use Rattle.std.proofs.Common.{rules}
 use Rattle.room.specs.declared.Record.{Record}
 use Rattle.bank.proofs.Laws.{two_bits}
 use Rattle.bank.proofs.bank_target.Goals as goal

@@ -1,5 +1,4 @@
 -- One number of the record that a bank shows.
-use Rattle.std.proofs.Common.{rules}
 use Rattle.bank.proofs.inf_at.Goals as goal
 
 pub returns : goal.returns

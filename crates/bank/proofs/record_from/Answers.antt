@@ -1,5 +1,4 @@
 -- `bank::record_from` meets its contract: each early way out is a zero record, and the last reads the record.
-use Rattle.std.proofs.Common.{rules}
 use native.Mathlib.Omega.{arith}
 use borrow.Author.Tests.{le-leb, lt-leb}
 use Rattle.bank.specs.Bank.{view_shows}

@@ -1,5 +1,4 @@
 -- The first refusal, as defined.
-use Rattle.std.proofs.Common.{rules}
 use borrow.Author.Tests.{lt-ltb, le-ltb, le-leb, lt-leb}
 use lib.ListN.{length}
 use Rattle.room.proofs.Laws.{third_below}

@@ -1,7 +1,6 @@
 -- Whether at most so many operations are answered. The loop's invariant: those counted and those left are all, and no more than
 -- allowed are counted. The measure is how many bytes are left.
-use Rattle.std.proofs.Common.{rules}
-use Prim.Native.Nat.{◌+◌, ◌-◌, ◌≤◌, ◌<◌}
+use Prim.Native.Nat.{◌+◌, ◌≤◌, ◌<◌}
 use native.Mathlib.Omega.{arith}
 use mathlib.Core.Path.{◌≡◌, sym, ap}
 use borrow.Author.Tests.{le-leb, lt-leb}

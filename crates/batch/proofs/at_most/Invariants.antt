@@ -1,13 +1,10 @@
 -- Whether at most so many operations are answered. The loop's invariant: those counted and those left are all, and no more than
 -- allowed are counted. The measure is how many bytes are left.
-use Prim.Native.Nat.{◌+◌, ◌-◌, ◌≤◌, ◌<◌}
-use native.Mathlib.Omega.{arith}
-use mathlib.Core.Path.{◌≡◌, sym, ap}
-use borrow.Author.Rules.{rules}
-use borrow.Author.Tests.{le-leb, lt-leb}
+use Prim.Native.Nat.{◌+◌, ◌-◌, ◌≤◌}
+use mathlib.Core.Path.{◌≡◌}
 use lib.ListN.{length}
 use Rattle.recording.specs.Run.{readings}
-use Rattle.recording.proofs.Run.{left, all_left, none_left, one_left, goes_further, half}
+use Rattle.recording.proofs.Run.{left}
 use Rattle.batch.proofs.at_most.Given as goal
 
 abbrev pub invariant-loop-at : goal.invariant-loop-at

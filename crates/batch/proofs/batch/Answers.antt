@@ -1,14 +1,13 @@
 -- A batch, as defined: the state decides first, then whether its answers have room, and then the steps of all.
-use Rattle.std.proofs.Common.{rules}
 use Prim.Native.Nat.{ℕ, ◌*◌, ◌/◌, ◌≤◌}
 use native.Mathlib.Omega.{arith}
 use mathlib.Core.Path.{◌≡◌, sym, ◌∙◌}
 use mathlib.Core.Bool.{true, false}
-use borrow.Author.Tests.{leb-true, leb-false, lt-ltb, le-ltb, not-true, not-false}
+use borrow.Author.Tests.{leb-true, leb-false, lt-ltb, le-ltb}
 use lib.Dec.{leb, ltb}
 use lib.ListN.{length}
 use Rattle.recording.specs.Run.{readings}
-use Rattle.batch.specs.Batch.{steps, batch_of}
+use Rattle.batch.specs.Batch.{batch_of}
 use Rattle.batch.proofs.Steps.{answered}
 use Rattle.batch.proofs.batch.Goals as goal
 
@@ -43,8 +42,7 @@ unfolding batch_of
 returns c =
     let room_for : (let a = c.args in 2 * length (readings a.bytes.now) ≤ length a.answers.now) = let a = c.args in
     have_room (length (readings a.bytes.now)) (length a.answers.now) (sym c.at_most.ensures ∙ c.if-not-at_most.false) in
-    let e = c in
-    let a = e.args in
+    let a = c.args in
     let r = c.step_all-count.ensures in
     let enough = le-ltb (length a.answers.now) (2 * length (readings a.bytes.now)) room_for in
-    rw (← e.load-loaded.ensures, e.in-Held.is, enough, r.value, r.words_after, r.room_after, r.answers_after, answered (readings a.bytes.now) a.words.now a.room.now)
+    rw (← c.load-loaded.ensures, c.in-Held.is, enough, r.value, r.words_after, r.room_after, r.answers_after, answered (readings a.bytes.now) a.words.now a.room.now)

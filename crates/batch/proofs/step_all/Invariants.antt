@@ -1,20 +1,12 @@
 -- All operations of a run. The loop's invariant: the steps of what is left, from the state and the room that stand now, leave what
 -- the steps of all leave; and their answers, written from here on, make the whole. The measure is how many bytes are left.
-use Prim.Native.Nat.{ℕ, suc, ◌+◌, ◌*◌, ◌-◌, ◌≤◌, ◌<◌}
-use native.Mathlib.Omega.{arith}
-use mathlib.Core.Path.{◌≡◌, refl, sym, ap, ◌∙◌}
-use borrow.Author.Rules.{rules}
-use mathlib.Core.List.{List}
+use Prim.Native.Nat.{◌+◌, ◌*◌, ◌-◌, ◌≤◌}
+use mathlib.Core.Path.{◌≡◌}
 use lib.ListN.{length}
-use Rattle.answer.specs.declared.Answer.{Answer}
 use Rattle.number.specs.Number.{written}
-use Rattle.number.proofs.Written.{written-nothing}
-use Rattle.recorder.specs.Result.{Result}
-use Rattle.recording.specs.Recording.{operation_at}
-use Rattle.recording.specs.Run.{readings, place_after}
+use Rattle.recording.specs.Run.{readings}
 use Rattle.batch.specs.Batch.{steps, in_numbers}
-use Rattle.recording.proofs.Run.{left, all_left, none_left, one_left, goes_further}
-use Rattle.batch.proofs.Steps.{front, then_theirs}
+use Rattle.recording.proofs.Run.{left}
 use Rattle.batch.proofs.step_all.Given as goal
 
 abbrev pub invariant-loop-at : goal.invariant-loop-at

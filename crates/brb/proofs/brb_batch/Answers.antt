@@ -1,5 +1,4 @@
 -- A batch on lent numbers, as document 01's numbers.
-use Rattle.std.proofs.Common.{rules}
 use mathlib.Core.Path.{ap}
 use Rattle.brb.specs.Recordings.{batch_in_numbers, batch_result}
 use Rattle.brb.proofs.brb_batch.Goals as goal

@@ -1,5 +1,4 @@
 -- An operation read into lent numbers, as defined: they are judged first.
-use Rattle.std.proofs.Common.{rules}
 use borrow.Author.Tests.{lt-ltb, le-ltb}
 use Rattle.brb.specs.Recordings.{read_result}
 use Rattle.brb.proofs.brb_recording_read.Goals as goal
@@ -12,8 +11,7 @@ returns-then-lent-lt6 c =
 pub returns-in-Operation : goal.returns-in-Operation
 unfolding read_result
 returns-in-Operation c =
-    let x = c in
-    rw (c.returned-in-Operation.ensures, le-ltb _ _ x.if-lent-lt6.false, ← x.operation_at.ensures, x.in-Operation.is, c.store_numbers.ensures)
+    rw (c.returned-in-Operation.ensures, le-ltb _ _ c.if-lent-lt6.false, ← c.operation_at.ensures, c.in-Operation.is, c.store_numbers.ensures)
 
 pub returns-in-Refused : goal.returns-in-Refused
 unfolding read_result

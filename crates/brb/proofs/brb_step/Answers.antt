@@ -1,5 +1,4 @@
 -- One step on lent numbers, as document 01's numbers.
-use Rattle.std.proofs.Common.{rules}
 use mathlib.Core.Path.{ap}
 use Rattle.brb.specs.Face.{as_numbers, step_result}
 use Rattle.brb.proofs.brb_step.Goals as goal
@@ -7,5 +6,4 @@ use Rattle.brb.proofs.brb_step.Goals as goal
 pub returns : goal.returns
 unfolding step_result
 returns c =
-    let l = c in
-    rw c.returned.ensures (ap as_numbers l.lent_step-answer.ensures)
+    rw c.returned.ensures (ap as_numbers c.lent_step-answer.ensures)

@@ -1,6 +1,5 @@
 -- One recorded step on lent numbers, as defined: a state that is not sound is refused with nothing read; a sound one is judged
 -- again where the operation that was read is stepped, and found to be the same.
-use Rattle.std.proofs.Common.{rules}
 use Prim.Native.Nat.{ℕ}
 use mathlib.Core.Path.{◌≡◌, sym, ap, ◌∙◌}
 use mathlib.Core.List.{List}
@@ -42,15 +41,11 @@ pub returns-in-Operation : goal.returns-in-Operation
 returns-in-Operation c =
     let loads : loaded c.args.state.now ≡ Held (c.in-Held.field-0) = sym c.load-loaded.ensures ∙ c.in-Held.is in
     let goes_on : (let a = c.args in recorded_result a.state.now a.room.now a.bytes.now a.at ≡ of_recorded a.state.now (step_of_reading (c.in-Held.field-0) a.room.now (operation_at a.bytes.now a.at))) = let a = c.args in of_held a.state.now a.room.now a.bytes.now a.at (c.in-Held.field-0) loads in
-    let l = c in
-    let x = l in
-    let d = x in
-    rw (c.returned_at-in-Operation.ensures, goes_on, ← x.operation_at.ensures, x.in-Operation.is)
-    (ap (as_recorded _) (l.lent_step-answer.ensures ∙ lent_held _ _ _ _ _ loads))
+    rw (c.returned_at-in-Operation.ensures, goes_on, ← c.operation_at.ensures, c.in-Operation.is)
+    (ap (as_recorded _) (c.lent_step-answer.ensures ∙ lent_held _ _ _ _ _ loads))
 
 pub returns-in-Refused : goal.returns-in-Refused
 returns-in-Refused c =
     let loads : loaded c.args.state.now ≡ Held (c.in-Held.field-0) = sym c.load-loaded.ensures ∙ c.in-Held.is in
     let goes_on : (let a = c.args in recorded_result a.state.now a.room.now a.bytes.now a.at ≡ of_recorded a.state.now (step_of_reading (c.in-Held.field-0) a.room.now (operation_at a.bytes.now a.at))) = let a = c.args in of_held a.state.now a.room.now a.bytes.now a.at (c.in-Held.field-0) loads in
-    let d = c in
     rw (c.returned_at-in-Refused.ensures, goes_on, ← c.operation_at.ensures, c.in-Refused.is, kept _ _ loads)

@@ -1,6 +1,5 @@
 -- An accepted operation, as defined: its clause is put in, then the running count, then what that makes of the records.
-use Rattle.std.proofs.Common.{rules}
-use mathlib.Core.Path.{◌≡◌, refl}
+use mathlib.Core.Path.{◌≡◌}
 use mathlib.Core.Bool.{Bool, cond}
 use Rattle.state.specs.declared.State.{State}
 use Rattle.state.specs.declared.Running.{Running}
@@ -27,11 +26,7 @@ pub returns : goal.returns
 unfolding passed
 returns c =
     let began : c.prohibited-hidden.result ≡ prohibited c.args.s (side c.args.s) = rw (c.prohibited-hidden.ensures, c.side.ensures) in
-    let effect = c in
-    let running = effect in
-    let does = running in
-    let hidden = does in
-    let given = hidden.args in
-    let clause = does.does-clause.ensures in
-    let x = does.does-clause.result in
-    rw (c.with_running-state.ensures, c.running_after.ensures, effect.effect_by-effect.ensures, by_sides given.s x.wanted hidden.prohibited-hidden.result x.hides x.event x.otherwise running.passed-running.result began clause.4 clause.5, running.passed-running.ensures, began, clause.0, clause.1, lines given.s given.o, clause.2, clause.3)
+    let given = c.args in
+    let clause = c.does-clause.ensures in
+    let x = c.does-clause.result in
+    rw (c.with_running-state.ensures, c.running_after.ensures, c.effect_by-effect.ensures, by_sides given.s x.wanted c.prohibited-hidden.result x.hides x.event x.otherwise c.passed-running.result began clause.4 clause.5, c.passed-running.ensures, began, clause.0, clause.1, lines given.s given.o, clause.2, clause.3)

@@ -1,6 +1,5 @@
 -- The clause of an operation, as defined: each arm knows its operation, what its callee answers is put in, and what is not wanted
 -- becomes no record.
-use Rattle.std.proofs.Common.{rules}
 use mathlib.Core.Path.{◌≡◌, refl, sym}
 use mathlib.Core.Bool.{Bool, true, false, ◌&&◌, ◌||◌, not}
 use Rattle.event.specs.Event.{becomes_record}

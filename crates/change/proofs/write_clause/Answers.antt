@@ -1,5 +1,4 @@
 -- What a write has set, as defined, whether it is an occasion, and how it ended.
-use Rattle.std.proofs.Common.{rules}
 use Rattle.operation.specs.Clause.{changed}
 use Rattle.change.proofs.write_clause.Goals as goal
 

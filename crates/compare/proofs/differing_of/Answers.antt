@@ -1,17 +1,12 @@
 -- What differs in two operations, as defined: the codes decide first.
-use Rattle.std.proofs.Common.{rules}
-use Rattle.std.proofs.Common.{arith, eq-eqb, ne_eqb}
+use Rattle.std.proofs.Common.{eq-eqb, ne_eqb}
 use Rattle.compare.specs.Compare.{differing}
 use Rattle.compare.proofs.differing_of.Goals as goal
 
 pub returns-then-x-y : goal.returns-then-x-y
 unfolding differing
 returns-then-x-y c =
-    let d = c in
-    let b = d in
-    let a = b in
-    let x = a in
-    rw (eq-eqb _ _ x.if-x-y.true, x.unlike_by.ensures.0, a.unlike_by-then-x-y.ensures.0, b.unlike_by-then-x-y-2.ensures.0, d.unlike_by-then-x-y-3.ensures.0, c.unlike_by-then-x-y-4.ensures.0)
+    rw (eq-eqb _ _ c.if-x-y.true, c.unlike_by.ensures.0, c.unlike_by-then-x-y.ensures.0, c.unlike_by-then-x-y-2.ensures.0, c.unlike_by-then-x-y-3.ensures.0, c.unlike_by-then-x-y-4.ensures.0)
 
 pub returns : goal.returns
 unfolding differing

@@ -1,5 +1,4 @@
 -- What is answered where the walk ended, as defined, by which of the two goes on.
-use Rattle.std.proofs.Common.{rules}
 use Rattle.std.proofs.Common.{arith, le-ltb, lt-ltb}
 use Rattle.compare.specs.Walk.{ended}
 use Rattle.compare.proofs.parted.Goals as goal

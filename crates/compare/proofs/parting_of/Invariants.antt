@@ -1,8 +1,8 @@
 -- Where two recordings part. The loop's invariant is `Together` of the walk; the measure is how far it is from its end.
-use Rattle.std.proofs.Common.{◌≡◌, ◌≤◌, sym, refl, ◌∙◌, arith}
+use Rattle.std.proofs.Common.{◌≡◌, ◌≤◌}
 use Rattle.compare.specs.Walk.{at_once}
-use Rattle.compare.proofs.Together.{Together, begins, done}
-use Rattle.compare.proofs.Turning.{distance, Kept, keeps}
+use Rattle.compare.proofs.Together.{Together}
+use Rattle.compare.proofs.Turning.{distance}
 use Rattle.compare.proofs.parting_of.Given as goal
 
 abbrev pub invariant-loop-going : goal.invariant-loop-going

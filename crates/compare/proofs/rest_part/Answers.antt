@@ -1,5 +1,4 @@
 -- The rest as a part, as defined, by whose it is.
-use Rattle.std.proofs.Common.{rules}
 use Rattle.std.proofs.Common.{◌≤◌, length, arith, drop_of_length-le, eq-eqb, ne_eqb}
 use Rattle.compare.specs.Compare.{rest_part}
 use Rattle.compare.proofs.rest_part.Goals as goal

@@ -1,8 +1,5 @@
 -- Whether bytes are the same. The loop's invariant: those so far are. The measure is how many are left.
-use Rattle.std.proofs.Common.{◌≡◌, ℕ, ◌+◌, ◌-◌, ◌<◌, ◌≤◌, Bool, true, false, ◌&&◌, eqb, List, get_or, refl, subst, ⊎_elim, arith, eqb-true}
-use borrow.Author.Tests.{eqb-false}
-use Rattle.bits.proofs.Cases.{never, below_or_not}
-use Rattle.bits.proofs.Each.{first, second}
+use Rattle.std.proofs.Common.{◌≡◌, ℕ, ◌+◌, ◌-◌, ◌<◌, ◌≤◌, true, false, List, get_or}
 use Rattle.compare.proofs.same_bytes.Given as goal
 
 -- So many bytes are the same.

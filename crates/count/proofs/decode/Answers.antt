@@ -1,11 +1,9 @@
 -- `count::decode` meets its contract: each return is what the laws say of the CC values that its tests leave. Assumes nothing.
-use Rattle.std.proofs.Common.{rules}
 use Prim.Native.Nat.{ℕ, ◌+◌, ◌*◌, ◌-◌, ◌^◌, ◌%◌, ◌/◌, ◌≤◌, ◌<◌}
 use mathlib.Core.Path.{◌≡◌, sym, ap, ◌∙◌}
-use native.Mathlib.Nat.{mul-le-mul_right}
 use native.Mathlib.Omega.{arith}
 use borrow.Author.Tests.{eq-eqb, ne_eqb}
-use lib.Pow.{pow_pos, pow_mono, shl_exact}
+use lib.Pow.{shl_exact}
 use Rattle.count.specs.Count.{decoded, smallest_of, largest_of}
 use Rattle.count.proofs.Laws.{known, refused, decoded-exceeded}
 use Rattle.count.proofs.decode.Goals as goal

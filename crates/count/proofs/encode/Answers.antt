@@ -1,9 +1,8 @@
 -- `count::encode` meets its contract: what is rounded is a count of 256 and more that the counter holds, whose leading zeros tell its
 -- power of two (`power`); with that power each step stays in range, and where the count is such a one itself, makes the encoding.
 -- Assumes nothing.
-use Rattle.std.proofs.Common.{rules}
 use Prim.Native.Nat.{ℕ, ◌+◌, ◌*◌, ◌-◌, ◌^◌, ◌/◌, ◌≤◌, ◌<◌}
-use mathlib.Core.Path.{◌≡◌, sym, ◌∙◌}
+use mathlib.Core.Path.{◌≡◌, sym}
 use mathlib.Core.Bool.{cond, ◌||◌}
 use mathlib.Core.Logic.{⊎_elim}
 use native.Mathlib.Omega.{arith}

@@ -1,5 +1,4 @@
 -- The record of an event, as defined: 0 on a prohibited side.
-use Rattle.std.proofs.Common.{rules}
 use Rattle.event.specs.Hidden.{record_by}
 use Rattle.event.proofs.record_of.Goals as goal
 

@@ -1,5 +1,4 @@
 -- The state after an overflow, as defined.
-use Rattle.std.proofs.Common.{rules}
 use Rattle.freeze.specs.Freeze.{overflowed}
 use Rattle.freeze.proofs.overflowed.Goals as goal
 

@@ -1,6 +1,5 @@
 -- The line of a refusal: the word, the number in decimal, and its end, one behind another.
-use Rattle.std.proofs.Common.{rules}
-use Prim.Native.Nat.{ℕ, ◌+◌}
+use Prim.Native.Nat.{◌+◌}
 use mathlib.Core.List.{[], ◌∷◌, ◌++◌}
 use native.Mathlib.Omega.{arith}
 use lib.ListN.{length-append}
@@ -24,11 +23,9 @@ overflow_add-used c =
     let word : (let a = c.args in
     Wrote a.out.now a.at (bytes_of_text "refused ") c.write_text-word.result c.write_text-word.new.out) = let a = c.args in
     wrote a.out.now a.at (bytes_of_text "refused ") (omega arith) c.write_text-word.ensures.value c.write_text-word.ensures.out_after in
-    let used : (let w = c in
-    let a = w.args in
-    Wrote a.out.now a.at (bytes_of_text "refused " ++ decimal a.n) (w.write_text-word.result + c.write_decimal.result)
-    c.write_decimal.new.out) = let w = c in
-    let a = w.args in
+    let used : (let a = c.args in
+    Wrote a.out.now a.at (bytes_of_text "refused " ++ decimal a.n) (c.write_text-word.result + c.write_decimal.result)
+    c.write_decimal.new.out) = let a = c.args in
     wrote_more (decimal a.n) word (omega (arith, length-decimal a.n)) c.write_decimal.ensures.value c.write_decimal.ensures.out_after in
     omega (arith, simp length-append at used.counted, length-decimal (c.args.n))
 
@@ -37,11 +34,9 @@ overflow_add-at-2 c =
     let word : (let a = c.args in
     Wrote a.out.now a.at (bytes_of_text "refused ") c.write_text-word.result c.write_text-word.new.out) = let a = c.args in
     wrote a.out.now a.at (bytes_of_text "refused ") (omega arith) c.write_text-word.ensures.value c.write_text-word.ensures.out_after in
-    let used : (let w = c in
-    let a = w.args in
-    Wrote a.out.now a.at (bytes_of_text "refused " ++ decimal a.n) (w.write_text-word.result + c.write_decimal.result)
-    c.write_decimal.new.out) = let w = c in
-    let a = w.args in
+    let used : (let a = c.args in
+    Wrote a.out.now a.at (bytes_of_text "refused " ++ decimal a.n) (c.write_text-word.result + c.write_decimal.result)
+    c.write_decimal.new.out) = let a = c.args in
     wrote_more (decimal a.n) word (omega (arith, length-decimal a.n)) c.write_decimal.ensures.value c.write_decimal.ensures.out_after in
     omega (arith, simp length-append at used.counted, length-decimal (c.args.n))
 
@@ -51,18 +46,13 @@ overflow_add-result c =
     let word : (let a = c.args in
     Wrote a.out.now a.at (bytes_of_text "refused ") c.write_text-word.result c.write_text-word.new.out) = let a = c.args in
     wrote a.out.now a.at (bytes_of_text "refused ") (omega arith) c.write_text-word.ensures.value c.write_text-word.ensures.out_after in
-    let used : (let w = c in
-    let a = w.args in
-    Wrote a.out.now a.at (bytes_of_text "refused " ++ decimal a.n) (w.write_text-word.result + c.write_decimal.result)
-    c.write_decimal.new.out) = let w = c in
-    let a = w.args in
+    let used : (let a = c.args in
+    Wrote a.out.now a.at (bytes_of_text "refused " ++ decimal a.n) (c.write_text-word.result + c.write_decimal.result)
+    c.write_decimal.new.out) = let a = c.args in
     wrote_more (decimal a.n) word (omega (arith, length-decimal a.n)) c.write_decimal.ensures.value c.write_decimal.ensures.out_after in
-    let line : (let d = c in
-    let w = d in
-    let a = w.args in
-    Wrote a.out.now a.at (line_of (Refused a.n)) (w.write_text-word.result + d.write_decimal.result + c.write_text.result)
-    c.write_text.new.out) = let d = c in
-    let a = d.args in
+    let line : (let a = c.args in
+    Wrote a.out.now a.at (line_of (Refused a.n)) (c.write_text-word.result + c.write_decimal.result + c.write_text.result)
+    c.write_text.new.out) = let a = c.args in
     wrote_more (10 ∷ []) used (simp length-append (omega (arith, length-decimal a.n))) c.write_text.ensures.value c.write_text.ensures.out_after in
     omega (arith, line.counted, length_line (Refused (c.args.n)))
 
@@ -72,20 +62,15 @@ returns-clause-value c =
     let word : (let a = c.args in
     Wrote a.out.now a.at (bytes_of_text "refused ") c.write_text-word.result c.write_text-word.new.out) = let a = c.args in
     wrote a.out.now a.at (bytes_of_text "refused ") (omega arith) c.write_text-word.ensures.value c.write_text-word.ensures.out_after in
-    let used : (let w = c in
-    let a = w.args in
-    Wrote a.out.now a.at (bytes_of_text "refused " ++ decimal a.n) (w.write_text-word.result + c.write_decimal.result)
-    c.write_decimal.new.out) = let w = c in
-    let a = w.args in
+    let used : (let a = c.args in
+    Wrote a.out.now a.at (bytes_of_text "refused " ++ decimal a.n) (c.write_text-word.result + c.write_decimal.result)
+    c.write_decimal.new.out) = let a = c.args in
     wrote_more (decimal a.n) word (omega (arith, length-decimal a.n)) c.write_decimal.ensures.value c.write_decimal.ensures.out_after in
-    let line : (let d = c in
-    let w = d in
-    let a = w.args in
-    Wrote a.out.now a.at (line_of (Refused a.n)) (w.write_text-word.result + d.write_decimal.result + c.write_text.result)
-    c.write_text.new.out) = let d = c in
-    let a = d.args in
+    let line : (let a = c.args in
+    Wrote a.out.now a.at (line_of (Refused a.n)) (c.write_text-word.result + c.write_decimal.result + c.write_text.result)
+    c.write_text.new.out) = let a = c.args in
     wrote_more (10 ∷ []) used (simp length-append (omega (arith, length-decimal a.n))) c.write_text.ensures.value c.write_text.ensures.out_after in
-    let l = line in l.counted
+    line.counted
 
 pub returns-clause-out_after : goal.returns-clause-out_after
 unfolding line_of
@@ -93,17 +78,12 @@ returns-clause-out_after c =
     let word : (let a = c.args in
     Wrote a.out.now a.at (bytes_of_text "refused ") c.write_text-word.result c.write_text-word.new.out) = let a = c.args in
     wrote a.out.now a.at (bytes_of_text "refused ") (omega arith) c.write_text-word.ensures.value c.write_text-word.ensures.out_after in
-    let used : (let w = c in
-    let a = w.args in
-    Wrote a.out.now a.at (bytes_of_text "refused " ++ decimal a.n) (w.write_text-word.result + c.write_decimal.result)
-    c.write_decimal.new.out) = let w = c in
-    let a = w.args in
+    let used : (let a = c.args in
+    Wrote a.out.now a.at (bytes_of_text "refused " ++ decimal a.n) (c.write_text-word.result + c.write_decimal.result)
+    c.write_decimal.new.out) = let a = c.args in
     wrote_more (decimal a.n) word (omega (arith, length-decimal a.n)) c.write_decimal.ensures.value c.write_decimal.ensures.out_after in
-    let line : (let d = c in
-    let w = d in
-    let a = w.args in
-    Wrote a.out.now a.at (line_of (Refused a.n)) (w.write_text-word.result + d.write_decimal.result + c.write_text.result)
-    c.write_text.new.out) = let d = c in
-    let a = d.args in
+    let line : (let a = c.args in
+    Wrote a.out.now a.at (line_of (Refused a.n)) (c.write_text-word.result + c.write_decimal.result + c.write_text.result)
+    c.write_text.new.out) = let a = c.args in
     wrote_more (10 ∷ []) used (simp length-append (omega (arith, length-decimal a.n))) c.write_text.ensures.value c.write_text.ensures.out_after in
-    let l = line in l.content
+    line.content

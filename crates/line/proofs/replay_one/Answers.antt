@@ -1,5 +1,4 @@
 -- One operation of a replay, as defined: what each callee answers is put in.
-use Rattle.std.proofs.Common.{rules}
 use native.Mathlib.Omega.{arith}
 use Rattle.line.specs.Turn.{turn_of}
 use Rattle.line.proofs.Laws.{used_within}

@@ -1,5 +1,4 @@
 -- The line of a read: sixteen digits, and its end behind them.
-use Rattle.std.proofs.Common.{rules}
 use Prim.Native.Nat.{◌+◌}
 use mathlib.Core.List.{[], ◌∷◌}
 use native.Mathlib.Omega.{arith}
@@ -17,7 +16,7 @@ overflow_add-at c =
     Wrote a.out.now a.at (digits 16 16 a.v) c.write_hexadecimal-digits.result c.write_hexadecimal-digits.new.out) = let a = c.args in
     wrote a.out.now a.at (digits 16 16 a.v) (omega (arith, length_digits 16 16 a.v)) c.write_hexadecimal-digits.ensures.value
     c.write_hexadecimal-digits.ensures.out_after in
-    let d = shown in omega (arith, d.counted, length_digits 16 16 c.args.v)
+    omega (arith, shown.counted, length_digits 16 16 c.args.v)
 
 pub overflow_add-result : goal.overflow_add-result
 unfolding line_of
@@ -26,12 +25,10 @@ overflow_add-result c =
     Wrote a.out.now a.at (digits 16 16 a.v) c.write_hexadecimal-digits.result c.write_hexadecimal-digits.new.out) = let a = c.args in
     wrote a.out.now a.at (digits 16 16 a.v) (omega (arith, length_digits 16 16 a.v)) c.write_hexadecimal-digits.ensures.value
     c.write_hexadecimal-digits.ensures.out_after in
-    let line : (let d = c in
-    let a = d.args in
-    Wrote a.out.now a.at (line_of (Value a.v)) (d.write_hexadecimal-digits.result + c.write_text.result) c.write_text.new.out) = let d = c in
-    let a = d.args in
+    let line : (let a = c.args in
+    Wrote a.out.now a.at (line_of (Value a.v)) (c.write_hexadecimal-digits.result + c.write_text.result) c.write_text.new.out) = let a = c.args in
     wrote_more (10 ∷ []) shown (omega (arith, length_digits 16 16 a.v)) c.write_text.ensures.value c.write_text.ensures.out_after in
-    let l = line in omega (arith, l.counted, length_line (Value c.args.v))
+    omega (arith, line.counted, length_line (Value c.args.v))
 
 pub returns-clause-value : goal.returns-clause-value
 unfolding line_of
@@ -40,12 +37,10 @@ returns-clause-value c =
     Wrote a.out.now a.at (digits 16 16 a.v) c.write_hexadecimal-digits.result c.write_hexadecimal-digits.new.out) = let a = c.args in
     wrote a.out.now a.at (digits 16 16 a.v) (omega (arith, length_digits 16 16 a.v)) c.write_hexadecimal-digits.ensures.value
     c.write_hexadecimal-digits.ensures.out_after in
-    let line : (let d = c in
-    let a = d.args in
-    Wrote a.out.now a.at (line_of (Value a.v)) (d.write_hexadecimal-digits.result + c.write_text.result) c.write_text.new.out) = let d = c in
-    let a = d.args in
+    let line : (let a = c.args in
+    Wrote a.out.now a.at (line_of (Value a.v)) (c.write_hexadecimal-digits.result + c.write_text.result) c.write_text.new.out) = let a = c.args in
     wrote_more (10 ∷ []) shown (omega (arith, length_digits 16 16 a.v)) c.write_text.ensures.value c.write_text.ensures.out_after in
-    let l = line in l.counted
+    line.counted
 
 pub returns-clause-out_after : goal.returns-clause-out_after
 unfolding line_of
@@ -54,9 +49,7 @@ returns-clause-out_after c =
     Wrote a.out.now a.at (digits 16 16 a.v) c.write_hexadecimal-digits.result c.write_hexadecimal-digits.new.out) = let a = c.args in
     wrote a.out.now a.at (digits 16 16 a.v) (omega (arith, length_digits 16 16 a.v)) c.write_hexadecimal-digits.ensures.value
     c.write_hexadecimal-digits.ensures.out_after in
-    let line : (let d = c in
-    let a = d.args in
-    Wrote a.out.now a.at (line_of (Value a.v)) (d.write_hexadecimal-digits.result + c.write_text.result) c.write_text.new.out) = let d = c in
-    let a = d.args in
+    let line : (let a = c.args in
+    Wrote a.out.now a.at (line_of (Value a.v)) (c.write_hexadecimal-digits.result + c.write_text.result) c.write_text.new.out) = let a = c.args in
     wrote_more (10 ∷ []) shown (omega (arith, length_digits 16 16 a.v)) c.write_text.ensures.value c.write_text.ensures.out_after in
-    let l = line in l.content
+    line.content

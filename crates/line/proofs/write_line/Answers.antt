@@ -1,5 +1,4 @@
 -- A line is written where the longest has room, else nothing is: the tests subtract, so that no sum wraps.
-use Rattle.std.proofs.Common.{rules}
 use borrow.Author.Tests.{lt-leb, le-leb}
 use Prim.Native.Nat.{◌+◌}
 use native.Mathlib.Omega.{arith}

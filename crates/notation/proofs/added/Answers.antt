@@ -1,4 +1,3 @@
-use Rattle.std.proofs.Common.{rules}
 use Rattle.notation.specs.Reading.{added}
 use Rattle.notation.proofs.added.Goals as goal
 

@@ -1,13 +1,9 @@
 -- What the rest is behind the value of the digits passed is what the whole word is.
 use Prim.Native.Nat.{◌-◌}
-use mathlib.Core.Path.{◌≡◌, refl, sym, ◌∙◌}
-use native.Mathlib.Omega.{arith}
-use borrow.Author.Rules.{rules}
-use lib.ListN.{length, get_or}
-use Rattle.notation.specs.declared.Appended.TheVariants.{Value, Over}
-use Rattle.notation.specs.Text.{digit_value, appended}
+use mathlib.Core.Path.{◌≡◌}
+use lib.ListN.{length}
 use Rattle.notation.specs.Words.{base_of}
-use Rattle.notation.proofs.Words.{base_small, number_from, number_past, number_ends, number_goes, number_over}
+use Rattle.notation.proofs.Words.{number_from}
 use Rattle.notation.proofs.digits_at.Given as goal
 
 abbrev pub invariant-loop-i : goal.invariant-loop-i

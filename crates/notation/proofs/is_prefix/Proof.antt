@@ -1,12 +1,11 @@
 -- The text's first two bytes tell whether the word starts with 0x.
-use Prim.Native.Nat.{ℕ, ◌+◌, ◌≤◌, ◌<◌}
-use mathlib.Core.Path.{◌≡◌, refl, sym, ◌∙◌}
-use mathlib.Core.Bool.{Bool, true, false, ◌&&◌}
+use Prim.Native.Nat.{ℕ, ◌≤◌}
+use mathlib.Core.Path.{◌≡◌}
+use mathlib.Core.Bool.{false}
 use mathlib.Core.List.{List}
 use native.Mathlib.Omega.{arith}
 use borrow.Author.Rules.{rules}
-use lib.Dec.{eqb}
-use lib.ListN.{length, drop, get_or}
+use lib.ListN.{length, drop}
 use Rattle.notation.specs.Words.{word_in, is_prefixed}
 use Rattle.notation.proofs.Words.{word_past, prefix_told, prefix_short}
 use Rattle.notation.proofs.is_prefix.Statement.{statement}

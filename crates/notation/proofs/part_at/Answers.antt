@@ -1,9 +1,8 @@
 -- White space, the operation's end, and a word.
-use Rattle.std.proofs.Common.{rules}
 use Prim.Native.Nat.{ℕ, suc, ◌+◌, ◌<◌}
-use mathlib.Core.Path.{◌≡◌, refl, sym, ap, ◌∙◌}
+use mathlib.Core.Path.{◌≡◌, sym, ◌∙◌}
 use mathlib.Core.Bool.{false}
-use mathlib.Core.List.{List, []}
+use mathlib.Core.List.{List}
 use native.Mathlib.Omega.{arith}
 use lib.ListN.{length, drop, get_or}
 use Rattle.bits.proofs.Cases.{never}
@@ -12,7 +11,6 @@ use Rattle.notation.specs.declared.Part.TheVariants.{On, Done}
 use Rattle.notation.specs.declared.Step.TheVariants.{Wrong}
 use Rattle.notation.specs.declared.Problem.{Problem}
 use Rattle.notation.specs.declared.Word.{Word}
-use Rattle.notation.specs.declared.Word.TheVariants as Word
 use Rattle.notation.specs.Words.{is_blank, ends_operation, word_in, Meaning, number, wrong, meaning_of}
 use Rattle.notation.specs.Reading.{added}
 use Rattle.notation.specs.Places.{located, Follows, on, done}

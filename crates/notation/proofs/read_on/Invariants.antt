@@ -1,18 +1,9 @@
 -- What reading on from a place comes to is what reading on from the start does.
-use Prim.Native.Nat.{ℕ, ◌+◌, ◌-◌, ◌≤◌, ◌<◌}
-use mathlib.Core.Path.{◌≡◌, refl, sym, ◌∙◌}
-use mathlib.Core.List.{List, []}
-use native.Mathlib.Omega.{arith}
-use borrow.Author.Rules.{rules}
-use lib.ListN.{length, drop, drop_of_length-le}
-use Rattle.bits.proofs.Cases.{never}
-use Rattle.notation.specs.declared.Begun.{Begun}
-use Rattle.notation.specs.declared.Part.{Part}
-use Rattle.notation.specs.declared.Part.TheVariants.{On, Done}
-use Rattle.notation.specs.declared.Step.{Step}
-use Rattle.notation.specs.declared.Step.TheVariants.{More}
+use Prim.Native.Nat.{◌-◌}
+use mathlib.Core.Path.{◌≡◌}
+use mathlib.Core.List.{[]}
+use lib.ListN.{length, drop}
 use Rattle.notation.specs.Reading.{read_from}
-use Rattle.notation.specs.Places.{Follows, on, done}
 use Rattle.notation.proofs.read_on.Given as goal
 
 abbrev pub invariant-loop-i : goal.invariant-loop-i

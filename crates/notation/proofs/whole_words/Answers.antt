@@ -1,11 +1,10 @@
 -- The bytes from the place on hold none that separates words, so that what is left decides.
-use Rattle.std.proofs.Common.{rules}
-use Prim.Native.Nat.{ℕ, zero, suc, ◌+◌, ◌-◌, ◌≤◌, ◌<◌}
+use Prim.Native.Nat.{ℕ, zero, suc, ◌-◌, ◌≤◌, ◌<◌}
 use mathlib.Core.Path.{◌≡◌, refl, sym, ◌∙◌}
 use mathlib.Core.Bool.{true, false}
 use mathlib.Core.List.{List}
 use native.Mathlib.Omega.{arith}
-use lib.ListN.{length, get_or}
+use lib.ListN.{get_or}
 use Rattle.notation.specs.Words.{separating, whole_words}
 use Rattle.notation.proofs.whole_words.Goals as goal
 

@@ -1,11 +1,8 @@
 -- The bytes from the place on hold none that separates words, so that what is left decides.
-use Prim.Native.Nat.{ℕ, zero, suc, ◌+◌, ◌-◌, ◌≤◌, ◌<◌}
-use mathlib.Core.Path.{◌≡◌, refl, sym, ◌∙◌}
-use mathlib.Core.Bool.{true, false}
-use mathlib.Core.List.{List}
-use native.Mathlib.Omega.{arith}
-use lib.ListN.{length, get_or}
-use Rattle.notation.specs.Words.{separating, whole_words}
+use Prim.Native.Nat.{◌≤◌}
+use mathlib.Core.Path.{◌≡◌}
+use lib.ListN.{length}
+use Rattle.notation.specs.Words.{whole_words}
 use Rattle.notation.proofs.whole_words.Given as goal
 
 abbrev pub invariant-loop-k : goal.invariant-loop-k

@@ -1,11 +1,10 @@
 -- The word behind 0x, or the whole.
-use Rattle.std.proofs.Common.{rules}
 use Prim.Native.Nat.{ℕ, ◌+◌}
-use mathlib.Core.Path.{◌≡◌, refl, sym, ap, ◌∙◌}
+use mathlib.Core.Path.{◌≡◌, refl, sym, ◌∙◌}
 use mathlib.Core.Bool.{true, false}
 use mathlib.Core.List.{List}
 use native.Mathlib.Omega.{arith}
-use lib.ListN.{length, drop}
+use lib.ListN.{drop}
 use Rattle.notation.specs.Words.{word_in, is_prefixed, Meaning, number, wrong, digits_of, prefixed, meaning_of}
 use Rattle.notation.specs.Places.{located}
 use Rattle.notation.proofs.Words.{Prefix, prefix_split}

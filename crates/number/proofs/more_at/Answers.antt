@@ -1,11 +1,9 @@
 -- `number::more_at` meets its contract. The loop's invariant is `Passed`: what the groups passed make of what the rest reads
 -- as is the whole. The measure is how far the place is from the loop's end. Assumes nothing.
 use Rattle.std.proofs.Common.{◌+◌, ◌≤◌}
-use Prim.Native.Nat.{◌+◌, ◌-◌, ◌≤◌}
+use Prim.Native.Nat.{◌+◌, ◌≤◌}
 use native.Mathlib.Omega.{arith}
-use lib.ListN.{drop}
-use Rattle.number.specs.Number.{continued, number_in}
-use Rattle.number.proofs.Groups.{Passed, passed_first, ended, zeroed, place_fits, product_fits, sum_fits, valued, turned, tenth_place, tenth_one, tenth_other}
+use Rattle.number.proofs.Groups.{ended, zeroed, place_fits, product_fits, sum_fits, valued, turned, tenth_one, tenth_other}
 use Rattle.number.proofs.more_at.Goals as goal
 
 pub returns-then-byte-eq0 : goal.returns-then-byte-eq0
@@ -28,13 +26,13 @@ returns-then-byte-lt128 c =
 pub overflow_mul-value : goal.overflow_mul-value
 overflow_mul-value c =
     let l = c.loop-i in
-    let byte = c.shared_slice_known-in-loop-i-1.given l.i in
+    let byte = c.type_inv.bytes l.i in
     product_fits l.invariant.0 (omega arith) (omega arith)
 
 pub overflow_add-value : goal.overflow_add-value
 overflow_add-value c =
     let l = c.loop-i in
-    let byte = c.shared_slice_known-in-loop-i-1.given l.i in
+    let byte = c.type_inv.bytes l.i in
     sum_fits l.invariant.0 (omega arith) (omega arith)
 
 pub overflow_mul-place : goal.overflow_mul-place
@@ -44,7 +42,7 @@ overflow_mul-place c =
 pub loop-i-preserved : goal.loop-i-preserved
 loop-i-preserved c =
     let l = c.loop-i in
-    let byte = c.shared_slice_known-in-loop-i-1.given l.i in
+    let byte = c.type_inv.bytes l.i in
     (turned l.invariant.0 (omega arith) (omega arith) (omega arith) (omega arith), omega arith)
 
 pub returns-then-bytes-i : goal.returns-then-bytes-i

@@ -1,10 +1,9 @@
 -- `number::more_at` meets its contract. The loop's invariant is `Passed`: what the groups passed make of what the rest reads
 -- as is the whole. The measure is how far the place is from the loop's end. Assumes nothing.
 use Prim.Native.Nat.{◌+◌, ◌-◌, ◌≤◌}
-use native.Mathlib.Omega.{arith}
 use lib.ListN.{drop}
 use Rattle.number.specs.Number.{continued, number_in}
-use Rattle.number.proofs.Groups.{Passed, passed_first, ended, zeroed, place_fits, product_fits, sum_fits, valued, turned, tenth_place, tenth_one, tenth_other}
+use Rattle.number.proofs.Groups.{Passed}
 use Rattle.number.proofs.more_at.Given as goal
 
 abbrev pub invariant-loop-i : goal.invariant-loop-i

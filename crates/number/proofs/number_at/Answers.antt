@@ -1,5 +1,4 @@
 -- `number::number_at` meets its contract: no byte, a byte that ends the number, or a byte before more. Assumes nothing.
-use Rattle.std.proofs.Common.{rules}
 use mathlib.Core.Path.{sym}
 use Prim.Native.Nat.{◌+◌}
 use native.Mathlib.Omega.{arith}

@@ -1,11 +1,9 @@
 -- `number::number_length` meets its contract. The loop's invariant: what is counted and what is left of n make one more
 -- than the length of its shortest form. The measure is what is left. Assumes nothing.
 use Prim.Native.Nat.{◌+◌, ◌^◌, ◌≤◌, ◌<◌}
-use mathlib.Core.Path.{◌≡◌, ap}
-use native.Mathlib.Omega.{arith}
+use mathlib.Core.Path.{◌≡◌}
 use lib.ListN.{length}
 use Rattle.number.specs.Number.{bytes_of}
-use Rattle.number.proofs.Laws.{last_of, more_of_lem, length_of}
 use Rattle.number.proofs.number_length.Given as goal
 
 abbrev pub invariant-loop-rest : goal.invariant-loop-rest

@@ -1,12 +1,9 @@
 -- `number::put` meets its contract. The loop's invariant: what is left, stored from here on, is the whole of n stored
 -- from its place on. The measure is what is left. Assumes nothing.
-use Rattle.std.proofs.Common.{rules}
-use Prim.Native.Nat.{◌+◌, ◌^◌, ◌≤◌, ◌<◌}
-use mathlib.Core.Path.{◌≡◌, refl, ap, ◌∙◌}
+use mathlib.Core.Path.{ap, ◌∙◌}
 use native.Mathlib.Numerals.{add-one}
 use native.Mathlib.Omega.{arith}
 use lib.ListN.{length, length-set}
-use lib.Seq.{sets}
 use Rattle.number.specs.Number.{bytes_of}
 use Rattle.number.proofs.Laws.{last_of, more_of_lem, length_of, sets_written}
 use Rattle.number.proofs.put.Goals as goal

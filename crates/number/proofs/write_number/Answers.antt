@@ -1,5 +1,4 @@
 -- `number::write_number` meets its contract: each test decides whether there is room. Assumes nothing.
-use Rattle.std.proofs.Common.{rules}
 use mathlib.Core.Path.{◌∙◌}
 use native.Mathlib.Omega.{arith}
 use Rattle.number.specs.Number.{bytes_of}
@@ -24,12 +23,10 @@ returns-then-out-size-2-clause-out_after c =
 
 pub returns-clause-value : goal.returns-clause-value
 returns-clause-value c =
-    let l = c in
-    let a = l.args in
-    let (count, content) = room a.out.now a.at (bytes_of a.n) (omega arith) in l.number_length-size.ensures.0 ∙ count
+    let a = c.args in
+    let (count, content) = room a.out.now a.at (bytes_of a.n) (omega arith) in c.number_length-size.ensures.0 ∙ count
 
 pub returns-clause-out_after : goal.returns-clause-out_after
 returns-clause-out_after c =
-    let l = c in
-    let a = l.args in
+    let a = c.args in
     let (count, content) = room a.out.now a.at (bytes_of a.n) (omega arith) in c.put.ensures ∙ content

@@ -1,5 +1,4 @@
 -- The table's last four lines, as defined: the first of three of them decides, or the last.
-use Rattle.std.proofs.Common.{rules}
 use Prim.Native.Nat.{ℕ}
 use mathlib.Core.Path.{◌≡◌, refl, sym}
 use mathlib.Core.Bool.{Bool, true, false, cond}
@@ -31,8 +30,8 @@ returns-then-first-ne0 c =
 
 pub returns-then-room_too_short : goal.returns-then-room_too_short
 returns-then-room_too_short c =
-    let fits = c in rw (four, ← fits.judge-first.ensures, eq-eqb _ _ fits.if-first-ne0.false, ← c.room_too_short.ensures, c.if-room_too_short.true)
+    rw (four, ← c.judge-first.ensures, eq-eqb _ _ c.if-first-ne0.false, ← c.room_too_short.ensures, c.if-room_too_short.true)
 
 pub returns : goal.returns
 returns c =
-    let fits = c in rw (four, ← fits.judge-first.ensures, eq-eqb _ _ fits.if-first-ne0.false, ← c.room_too_short.ensures, c.if-room_too_short.false)
+    rw (four, ← c.judge-first.ensures, eq-eqb _ _ c.if-first-ne0.false, ← c.room_too_short.ensures, c.if-room_too_short.false)

@@ -1,5 +1,4 @@
 -- Refusals 4, 8 and 5, as defined: each arm knows its operation, and what its callees answer is put in.
-use Rattle.std.proofs.Common.{rules}
 use mathlib.Core.Path.{◌≡◌, refl}
 use mathlib.Core.Bool.{Bool, true, false, ◌&&◌, ◌||◌, not}
 use Rattle.operation.specs.Refusal.{outside_list, wrong_halted, wrong_level}

@@ -1,5 +1,4 @@
 -- An operation from its numbers, as defined: each arm knows its code, the last that the code is none of them.
-use Rattle.std.proofs.Common.{rules}
 use borrow.Author.Tests.{ne_eqb}
 use Rattle.operation.specs.Operation.{operation_of}
 use Rattle.operation.proofs.operation_of.Goals as goal

@@ -1,5 +1,4 @@
 -- The first refusal, as defined: the conditions are tested in the table's order, and each way out knows those before it.
-use Rattle.std.proofs.Common.{rules}
 use Rattle.operation.specs.Refusal.{refusal_of}
 use Rattle.operation.proofs.refusal.Goals as goal
 

@@ -1,5 +1,4 @@
 -- Refusal 6's condition, as defined: a third of the room is below a size exactly when the room is below three times it.
-use Rattle.std.proofs.Common.{rules}
 use Rattle.room.proofs.Laws.{third_below}
 use Rattle.operation.specs.Refusal.{room_too_short}
 use Rattle.operation.proofs.room_too_short.Goals as goal

@@ -1,5 +1,4 @@
 -- The size after the operation, as defined: each arm knows its operation, and neither a write nor a freeze changes the size.
-use Rattle.std.proofs.Common.{rules}
 use mathlib.Core.Path.{refl, sym}
 use Rattle.operation.specs.declared.Operation.TheVariants.{Write, Freeze}
 use Rattle.operation.specs.Clause.{changed}

@@ -1,5 +1,4 @@
 -- An accepted operation, as defined: what was decided is put in, and room and start are what `apply` leaves.
-use Rattle.std.proofs.Common.{rules}
 use Rattle.recorder.specs.Step.{accepted}
 use Rattle.recorder.proofs.accept.Goals as goal
 

@@ -1,15 +1,11 @@
 -- The step on lent numbers, as defined: what the loaded state steps to is stored, or nothing is touched.
-use Rattle.std.proofs.Common.{rules}
 use Rattle.recorder.specs.Lent.{lent_step}
 use Rattle.recorder.proofs.lent_step.Goals as goal
 
 pub returns-in-Held : goal.returns-in-Held
 unfolding lent_step
 returns-in-Held c =
-    let step = c in
-    let held = step in
-    let load = held in
-    rw (← load.load-loaded.ensures, held.in-Held.is, ← load.operation_of-o.ensures, ← step.step-stepped.ensures, c.store.ensures)
+    rw (← c.load-loaded.ensures, c.in-Held.is, ← c.operation_of-o.ensures, ← c.step-stepped.ensures, c.store.ensures)
 
 pub returns-in-Unsound : goal.returns-in-Unsound
 unfolding lent_step

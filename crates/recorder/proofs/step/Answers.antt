@@ -1,5 +1,4 @@
 -- The step, as defined: the refusal's number decides, and a refused operation leaves the room as it was.
-use Rattle.std.proofs.Common.{rules}
 use borrow.Author.Tests.{ne_eqb}
 use Rattle.recorder.specs.Step.{step_of}
 use Rattle.recorder.proofs.step.Goals as goal

@@ -1,5 +1,4 @@
 -- Where an operation ends, as defined: nowhere past the end; and else, whole or by what is read.
-use Rattle.std.proofs.Common.{rules}
 use native.Mathlib.Omega.{arith}
 use Rattle.number.proofs.Groups.{past_end}
 use Rattle.number.specs.Number.{number_at}

@@ -1,5 +1,4 @@
 -- The number of fields, as defined: each answer is that of the codes that are left for it.
-use Rattle.std.proofs.Common.{rules}
 use Prim.Native.Nat.{ℕ, zero, suc, ◌≤◌, ◌<◌}
 use mathlib.Core.Path.{◌≡◌, refl, sym, ap}
 use native.Mathlib.Omega.{arith}

@@ -1,7 +1,6 @@
 -- Where a number ends. The loop's invariant is `Reached`, and the measure how far the tenth byte is.
-use Rattle.std.proofs.Common.{rules}
 use mathlib.Core.Path.{◌≡◌, ◌∙◌}
-use Prim.Native.Nat.{◌+◌, ◌-◌, ◌≤◌}
+use Prim.Native.Nat.{◌+◌}
 use native.Mathlib.Omega.{arith}
 use Rattle.number.specs.Number.{number_at}
 use Rattle.number.proofs.Ends.{Reached, moved_to, first_ends, reached_first, none_zero, ends_here, goes_on, ends_tenth, none_tenth}
@@ -14,7 +13,7 @@ returns-then-bytes-at-lt128 c =
 pub loop-k-init : goal.loop-k-init
 loop-k-init c =
     let a = c.args in
-    (reached_first a.bytes.now a.at (omega arith) (omega arith) (omega (arith, c.shared_slice_known-1.given a.at)), omega arith)
+    (reached_first a.bytes.now a.at (omega arith) (omega arith) (omega (arith, c.type_inv.bytes a.at)), omega arith)
 
 pub returns-then-digit-eq0 : goal.returns-then-digit-eq0
 returns-then-digit-eq0 c =
@@ -28,14 +27,13 @@ pub loop-k-preserved : goal.loop-k-preserved
 loop-k-preserved c =
     let l = c.loop-k in
     let a = c.args in
-    let byte = c.shared_slice_known-in-loop-k-1.given (a.at + l.k) in
+    let byte = c.type_inv.bytes (a.at + l.k) in
     (moved_to (goes_on l.invariant.0 (omega arith) (omega arith) (omega arith) (omega arith)) (omega arith), omega arith)
 
 pub returns-then-bytes-at-eq1 : goal.returns-then-bytes-at-eq1
 returns-then-bytes-at-eq1 c =
     let at_tenth : (let a = c.args in Reached (number_at a.bytes.now a.at) a.bytes.now (a.at + 9) (a.at + 9)) = moved_to c.loop-k.invariant.0 (omega (arith, c.loop-k.invariant.1)) in
-    let l = c in
-    let a = l.args in
+    let a = c.args in
     let next : a.at + 10 ≡ a.at + 9 + 1 = omega arith in
     (next ∙ ends_tenth at_tenth (omega arith) (omega arith) (omega arith), omega arith)
 

@@ -1,9 +1,7 @@
 -- Where a number ends. The loop's invariant is `Reached`, and the measure how far the tenth byte is.
-use mathlib.Core.Path.{◌≡◌, ◌∙◌}
 use Prim.Native.Nat.{◌+◌, ◌-◌, ◌≤◌}
-use native.Mathlib.Omega.{arith}
 use Rattle.number.specs.Number.{number_at}
-use Rattle.number.proofs.Ends.{Reached, moved_to, first_ends, reached_first, none_zero, ends_here, goes_on, ends_tenth, none_tenth}
+use Rattle.number.proofs.Ends.{Reached}
 use Rattle.recording.proofs.number_end.Given as goal
 
 abbrev pub invariant-loop-k : goal.invariant-loop-k

@@ -1,11 +1,9 @@
 -- Where so many numbers end. The loop's invariant: where those that are left end is where all do. The measure is how many are left.
-use Prim.Native.Nat.{ℕ, suc, ◌+◌, ◌*◌, ◌-◌, ◌≤◌}
-use mathlib.Core.Path.{◌≡◌, sym, ap, ◌∙◌}
-use native.Mathlib.Omega.{arith}
+use Prim.Native.Nat.{◌+◌, ◌*◌, ◌-◌, ◌≤◌}
+use mathlib.Core.Path.{◌≡◌}
 use lib.ListN.{length}
 use Rattle.recording.specs.Recording.{numbers_at}
 use Rattle.recording.specs.Run.{end_of_several}
-use Rattle.recording.proofs.End.{end_on, end_none}
 use Rattle.recording.proofs.numbers_end.Given as goal
 
 abbrev pub invariant-loop-i : goal.invariant-loop-i

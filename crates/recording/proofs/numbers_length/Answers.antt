@@ -1,11 +1,10 @@
 -- The length of the first numbers. The loop's invariant: what is counted, and the bytes of the numbers from here on, make
 -- the whole. The measure is how many are left.
 use Rattle.std.proofs.Common.{rules}
-use Prim.Native.Nat.{◌+◌, ◌*◌, ◌-◌, ◌≤◌}
 use mathlib.Core.Path.{◌≡◌}
 use native.Mathlib.Omega.{arith}
-use lib.ListN.{length, take}
-use lib.Seq.{slice, slice_empty}
+use lib.ListN.{length}
+use lib.Seq.{slice_empty}
 use Rattle.recording.specs.Recording.{bytes_of_all}
 use Rattle.recording.proofs.Several.{next-length}
 use Rattle.recording.proofs.numbers_length.Goals as goal

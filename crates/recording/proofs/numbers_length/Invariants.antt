@@ -2,12 +2,9 @@
 -- the whole. The measure is how many are left.
 use Prim.Native.Nat.{◌+◌, ◌*◌, ◌-◌, ◌≤◌}
 use mathlib.Core.Path.{◌≡◌}
-use native.Mathlib.Omega.{arith}
-use borrow.Author.Rules.{rules}
 use lib.ListN.{length, take}
-use lib.Seq.{slice, slice_empty}
+use lib.Seq.{slice}
 use Rattle.recording.specs.Recording.{bytes_of_all}
-use Rattle.recording.proofs.Several.{next-length}
 use Rattle.recording.proofs.numbers_length.Given as goal
 
 abbrev pub invariant-loop-i : goal.invariant-loop-i

@@ -1,5 +1,4 @@
 -- Reading an operation, as defined: the code decides first.
-use Rattle.std.proofs.Common.{rules}
 use native.Mathlib.Omega.{arith}
 use borrow.Author.Tests.{lt-ltb, le-ltb, not-true, not-false}
 use Rattle.operation.specs.Operation.{last_code}
@@ -21,12 +20,9 @@ returns-then-code-gt-LAST_CODE c =
 pub returns-then-not-f : goal.returns-then-not-f
 unfolding operation_at
 returns-then-not-f c =
-    let f = c in
-    rw (← f.number_at.ensures, c.in-Value.is, le-ltb last_code c.in-Value.code (omega arith), ← f.fields_at-f.ensures, not-true f.fields_at-f.result.good c.if-not-f.true)
+    rw (← c.number_at.ensures, c.in-Value.is, le-ltb last_code c.in-Value.code (omega arith), ← c.fields_at-f.ensures, not-true c.fields_at-f.result.good c.if-not-f.true)
 
 pub returns : goal.returns
 unfolding operation_at
 returns c =
-    let x = c in
-    let f = x in
-    rw (← f.number_at.ensures, c.in-Value.is, le-ltb last_code c.in-Value.code (omega arith), ← f.fields_at-f.ensures, not-false f.fields_at-f.result.good x.if-not-f.false)
+    rw (← c.number_at.ensures, c.in-Value.is, le-ltb last_code c.in-Value.code (omega arith), ← c.fields_at-f.ensures, not-false c.fields_at-f.result.good c.if-not-f.false)

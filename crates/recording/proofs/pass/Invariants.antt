@@ -1,11 +1,9 @@
 -- Operations are passed as defined. The loop's invariant: those that are left to be passed, after those that were, are all. The
 -- measure is how many may be left.
-use Prim.Native.Nat.{ℕ, suc, ◌+◌, ◌-◌, ◌≤◌}
-use mathlib.Core.Path.{◌≡◌, sym, ap, ◌∙◌}
-use native.Mathlib.Omega.{arith}
-use Rattle.recording.specs.declared.Passage.{Passage}
+use Prim.Native.Nat.{◌-◌, ◌≤◌}
+use mathlib.Core.Path.{◌≡◌}
 use Rattle.recording.specs.Run.{passed_from}
-use Rattle.recording.proofs.Passes.{ahead, one_passed, none_passed}
+use Rattle.recording.proofs.Passes.{ahead}
 use Rattle.recording.proofs.pass.Given as goal
 
 abbrev pub invariant-loop-count : goal.invariant-loop-count

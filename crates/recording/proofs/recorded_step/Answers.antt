@@ -1,6 +1,4 @@
 -- One operation of a recording, as defined: soundness decides first, then what reading found.
-use Rattle.std.proofs.Common.{rules}
-use borrow.Author.Tests.{not-true, not-false}
 use Rattle.state.specs.Words.{judged}
 use Rattle.recording.specs.RecordedStep.{recorded_step}
 use Rattle.recording.proofs.recorded_step.Goals as goal
@@ -13,13 +11,9 @@ returns-then-not-sound c =
 pub returns-in-Operation : goal.returns-in-Operation
 unfolding judged recorded_step
 returns-in-Operation c =
-    let r = c in
-    let s = r in
-    rw (← s.sound.ensures, s.if-not-sound.false, ← r.operation_at.ensures, r.in-Operation.is) (cc)
+    rw (← c.sound.ensures, c.if-not-sound.false, ← c.operation_at.ensures, c.in-Operation.is) (cc)
 
 pub returns-in-Refused : goal.returns-in-Refused
 unfolding judged recorded_step
 returns-in-Refused c =
-    let r = c in
-    let s = r in
-    rw (← s.sound.ensures, s.if-not-sound.false, ← r.operation_at.ensures, r.in-Refused.is, c.refused-in-Refused.ensures)
+    rw (← c.sound.ensures, c.if-not-sound.false, ← c.operation_at.ensures, c.in-Refused.is, c.refused-in-Refused.ensures)

@@ -1,9 +1,8 @@
 -- The six stores in a row are the six numbers in front of what stood past them.
-use Rattle.std.proofs.Common.{rules}
 use borrow.Author.Tests.{lt-leb, le-leb}
 use mathlib.Core.List.{[], ◌∷◌}
 use native.Mathlib.Omega.{arith}
-use lib.ListN.{length, length-set}
+use lib.ListN.{length}
 use lib.Seq.{sets-eq}
 use Rattle.recording.specs.Operations.{stored_numbers}
 use Rattle.recording.proofs.store_numbers.Goals as goal

@@ -1,5 +1,4 @@
 -- Where an operation ends that has sixty bytes there, as defined: the code decides first.
-use Rattle.std.proofs.Common.{rules}
 use Prim.Native.Nat.{ℕ, suc, ◌+◌}
 use native.Mathlib.Omega.{arith}
 use mathlib.Core.Path.{◌≡◌, sym, ap, ◌∙◌}
@@ -25,18 +24,13 @@ returns-then-code-gt-LAST_CODE c =
 -- The code has ten bytes at most, and so has each number behind it.
 pub numbers_end-requires : goal.numbers_end-requires
 numbers_end-requires c =
-    let k = c in
-    let o = k in
-    let r = reach o.args.bytes.now o.args.at c.in-Value.code c.in-Value.next (sym o.number_at.ensures ∙ c.in-Value.is) in
+    let r = reach c.args.bytes.now c.args.at c.in-Value.code c.in-Value.next (sym c.number_at.ensures ∙ c.in-Value.is) in
     omega (arith, r.allowed_to, c.field_count.ensures.1)
 
 pub returns : goal.returns
 unfolding operation_at
 returns c =
-    let f = c in
-    let k = f in
-    let o = k in
-    let bytes = o.args.bytes.now in
-    let count : f.field_count.result + 1 ≡ suc (field_count c.in-Value.code) = omega (arith, f.field_count.ensures.0) in
-    rw (← o.number_at.ensures, c.in-Value.is, le-ltb last_code c.in-Value.code (omega arith))
+    let bytes = c.args.bytes.now in
+    let count : c.field_count.result + 1 ≡ suc (field_count c.in-Value.code) = omega (arith, c.field_count.ensures.0) in
+    rw (← c.number_at.ensures, c.in-Value.is, le-ltb last_code c.in-Value.code (omega arith))
     (c.numbers_end.ensures ∙ ap (λ (j : ℕ). end_of_several (numbers_at j bytes c.in-Value.next)) count ∙ sym (end_of_fields c.in-Value.code (numbers_at (suc (field_count c.in-Value.code)) bytes c.in-Value.next)))

@@ -1,11 +1,11 @@
 -- The first numbers written. The loop's invariant: the numbers from here on, written from here on, make the whole. The
 -- measure is how many are left.
 use Rattle.std.proofs.Common.{rules}
-use Prim.Native.Nat.{◌+◌, ◌-◌, ◌≤◌}
-use mathlib.Core.Path.{◌≡◌, refl, sym, ◌∙◌}
+use Prim.Native.Nat.{◌+◌, ◌≤◌}
+use mathlib.Core.Path.{◌≡◌, sym, ◌∙◌}
 use native.Mathlib.Omega.{arith}
 use native.Mathlib.Nat.{add-zero}
-use lib.ListN.{length, take, take-append-drop}
+use lib.ListN.{length, take-append-drop}
 use lib.Seq.{slice, slice_empty}
 use Rattle.number.specs.Number.{written}
 use Rattle.recording.specs.Recording.{bytes_of_all}
@@ -19,7 +19,7 @@ overflow_add-place c =
     let w = c.write_number-place in
     let six : length a.list ≡ 6 = search rules in
     next-written a.list l.i a.count (omega arith) (omega arith) l.out l.place w.result w.new.out (omega arith) w.ensures.value w.ensures.out_after in
-    let n = next in omega arith
+    omega arith
 
 pub loop-i-preserved : goal.loop-i-preserved
 loop-i-preserved c =

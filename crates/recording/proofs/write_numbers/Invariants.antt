@@ -1,15 +1,11 @@
 -- The first numbers written. The loop's invariant: the numbers from here on, written from here on, make the whole. The
 -- measure is how many are left.
 use Prim.Native.Nat.{◌+◌, ◌-◌, ◌≤◌}
-use mathlib.Core.Path.{◌≡◌, refl, sym, ◌∙◌}
-use native.Mathlib.Omega.{arith}
-use native.Mathlib.Nat.{add-zero}
-use borrow.Author.Rules.{rules}
-use lib.ListN.{length, take, take-append-drop}
-use lib.Seq.{slice, slice_empty}
+use mathlib.Core.Path.{◌≡◌}
+use lib.ListN.{length, take}
+use lib.Seq.{slice}
 use Rattle.number.specs.Number.{written}
 use Rattle.recording.specs.Recording.{bytes_of_all}
-use Rattle.recording.proofs.Several.{next-written}
 use Rattle.recording.proofs.write_numbers.Given as goal
 
 abbrev pub invariant-loop-i : goal.invariant-loop-i

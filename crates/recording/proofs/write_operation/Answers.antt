@@ -1,5 +1,4 @@
 -- Writing an operation, as defined: each way out knows the refusal, and the bytes are those of the operation's own numbers.
-use Rattle.std.proofs.Common.{rules}
 use Prim.Native.Nat.{ℕ, ◌+◌, ◌≤◌, ◌<◌}
 use mathlib.Core.Path.{◌≡◌, ap, ◌∙◌}
 use mathlib.Core.List.{List, [], ◌∷◌}
@@ -13,7 +12,6 @@ use Rattle.number.proofs.Written.{no_room, room}
 use Rattle.operation.specs.Operation.{last_code}
 use Rattle.recording.specs.declared.Numbers.{Numbers}
 use Rattle.recording.specs.Recording.{field_count, bytes_of_all, operation_bytes, writing_of, written_operation}
-use Rattle.recording.proofs.Cases.{fields_at_most}
 use Rattle.recording.proofs.write_operation.Goals as goal
 
 -- The first numbers of the list are the operation's own
@@ -47,50 +45,44 @@ returns-then-out-size-clause-value c =
     let counted : c.numbers_length-size.result ≡ length (operation_bytes c.args.x) = let n = c.field_count in
     c.numbers_length-size.ensures.0 ∙ ap length (own_bytes c.args.x n.result n.ensures.0) in
     let a = c.args in
-    let size = counted in (no_place a.x a.at a.out.now (omega arith) (omega arith)).0
+    (no_place a.x a.at a.out.now (omega arith) (omega arith)).0
 
 pub returns-then-out-size-clause-out_after : goal.returns-then-out-size-clause-out_after
 returns-then-out-size-clause-out_after c =
     let counted : c.numbers_length-size.result ≡ length (operation_bytes c.args.x) = let n = c.field_count in
     c.numbers_length-size.ensures.0 ∙ ap length (own_bytes c.args.x n.result n.ensures.0) in
     let a = c.args in
-    let size = counted in (no_place a.x a.at a.out.now (omega arith) (omega arith)).1
+    (no_place a.x a.at a.out.now (omega arith) (omega arith)).1
 
 pub returns-then-out-size-2-clause-value : goal.returns-then-out-size-2-clause-value
 returns-then-out-size-2-clause-value c =
     let counted : c.numbers_length-size.result ≡ length (operation_bytes c.args.x) = let n = c.field_count in
     c.numbers_length-size.ensures.0 ∙ ap length (own_bytes c.args.x n.result n.ensures.0) in
     let a = c.args in
-    let size = counted in (no_place a.x a.at a.out.now (omega arith) (omega arith)).0
+    (no_place a.x a.at a.out.now (omega arith) (omega arith)).0
 
 pub returns-then-out-size-2-clause-out_after : goal.returns-then-out-size-2-clause-out_after
 returns-then-out-size-2-clause-out_after c =
     let counted : c.numbers_length-size.result ≡ length (operation_bytes c.args.x) = let n = c.field_count in
     c.numbers_length-size.ensures.0 ∙ ap length (own_bytes c.args.x n.result n.ensures.0) in
     let a = c.args in
-    let size = counted in (no_place a.x a.at a.out.now (omega arith) (omega arith)).1
+    (no_place a.x a.at a.out.now (omega arith) (omega arith)).1
 
 pub returns-clause-value : goal.returns-clause-value
 returns-clause-value c =
     let counted : c.numbers_length-size.result ≡ length (operation_bytes c.args.x) = let n = c.field_count in
     c.numbers_length-size.ensures.0 ∙ ap length (own_bytes c.args.x n.result n.ensures.0) in
-    let w = c in
-    let l = w in
-    let a = l.args in
-    let n = l.field_count in
-    let size = counted in
-    let (count, content) = a_place a.x a.at a.out.now (omega arith) (omega arith) in ap Value size ∙ count
+    let a = c.args in
+    let n = c.field_count in
+    let (count, content) = a_place a.x a.at a.out.now (omega arith) (omega arith) in ap Value counted ∙ count
 
 pub returns-clause-out_after : goal.returns-clause-out_after
 returns-clause-out_after c =
     let counted : c.numbers_length-size.result ≡ length (operation_bytes c.args.x) = let n = c.field_count in
     c.numbers_length-size.ensures.0 ∙ ap length (own_bytes c.args.x n.result n.ensures.0) in
-    let w = c in
-    let l = w in
-    let a = l.args in
-    let n = l.field_count in
-    let size = counted in
-    let (count, content) = a_place a.x a.at a.out.now (omega arith) (omega arith) in w.write_numbers.ensures ∙ ap (written a.out.now a.at) (own_bytes a.x n.result n.ensures.0) ∙ content
+    let a = c.args in
+    let n = c.field_count in
+    let (count, content) = a_place a.x a.at a.out.now (omega arith) (omega arith) in c.write_numbers.ensures ∙ ap (written a.out.now a.at) (own_bytes a.x n.result n.ensures.0) ∙ content
 
 pub returns-then-x-gt-LAST_CODE-clause-out_after : goal.returns-then-x-gt-LAST_CODE-clause-out_after
 unfolding writing_of written_operation

@@ -1,14 +1,10 @@
 -- Where recording is prohibited, as defined: bit k of the word is 1 exactly where it is not at side k.
-use Rattle.std.proofs.Common.{rules}
 use Prim.Native.Nat.{ℕ, zero, suc, ◌+◌, ◌*◌, ◌^◌, ◌/◌, ◌%◌, ◌≤◌}
 use native.Mathlib.Omega.{arith}
-use mathlib.Core.Path.{◌≡◌, refl, ap, ◌∙◌}
+use mathlib.Core.Path.{◌≡◌, refl, ◌∙◌}
 use mathlib.Core.Bool.{Bool, true, false, cond, ◌&&◌, ◌||◌, not}
-use mathlib.Core.Logic.{⊎_elim}
 use lib.Dec.{eqb, leb}
-use borrow.Author.Tests.{le-leb, lt-leb, eq-eqb, ne_eqb}
-use Rattle.bits.proofs.Cases.{below_or_not}
-use Rattle.state.specs.declared.State.{State}
+use borrow.Author.Tests.{lt-leb, eq-eqb, ne_eqb}
 use Rattle.state.specs.Named.{TGE, EL2Enabled, el3_recording_enabled}
 use Rattle.region.specs.Region.{prohibited_by_sbrbe, enabled, prohibited}
 use Rattle.region.proofs.prohibited.Goals as goal
@@ -77,12 +73,8 @@ below false n h = h
 pub returns : goal.returns
 unfolding prohibited enabled
 returns c =
-    let el3 = c in
-    let sbrbe = el3 in
-    let el0 = sbrbe in
-    let el2 = el0 in
-    let given = el2.args in
+    let given = c.args in
     let s = given.s in
-    rw (c.pick-place.ensures, c.pick-el3.ensures, el3.el3_recording_enabled.ensures, el3.pick-below3.ensures, sbrbe.prohibited_by_sbrbe.ensures, el0.pick-el0.ensures, el2.el2_enabled.ensures, ← either_bit (TGE s && EL2Enabled s) (s.brbcr2 / 1 % 2) (s.brbcr1 / 1 % 2))
+    rw (c.pick-place.ensures, c.pick-el3.ensures, c.el3_recording_enabled.ensures, c.pick-below3.ensures, c.prohibited_by_sbrbe.ensures, c.pick-el0.ensures, c.el2_enabled.ensures, ← either_bit (TGE s && EL2Enabled s) (s.brbcr2 / 1 % 2) (s.brbcr1 / 1 % 2))
     (word_says (prohibited_by_sbrbe s) (el3_recording_enabled s) (cond (TGE s && EL2Enabled s) (s.brbcr2 / 1 % 2) (s.brbcr1 / 1 % 2)) (s.brbcr1 / 2 % 2) (s.brbcr2 / 2 % 2)
     (one (TGE s && EL2Enabled s) (s.brbcr2 / 1) (s.brbcr1 / 1)) (omega arith) (omega arith) given.side)

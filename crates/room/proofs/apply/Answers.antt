@@ -1,5 +1,4 @@
 -- `room::apply` meets its contract: each arm by what its callees promise, at the variant that the arm found.
-use Rattle.std.proofs.Common.{rules}
 use Rattle.room.specs.Room.{room_after, start_after}
 use Rattle.room.proofs.apply.Goals as goal
 

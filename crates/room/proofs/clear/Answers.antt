@@ -1,11 +1,9 @@
 -- `room::clear` meets its contract. The invariant of its loop: the first i numbers are 0 and the others as they were, and i
 -- is within the needed room; the measure is what is left of that.
-use Rattle.std.proofs.Common.{rules}
-use Prim.Native.Nat.{◌+◌, ◌-◌, ◌≤◌}
+use Prim.Native.Nat.{◌+◌, ◌≤◌}
 use native.Mathlib.Omega.{arith}
-use mathlib.Core.Path.{◌≡◌, refl, ◌∙◌}
-use mathlib.Core.List.{◌++◌}
-use lib.ListN.{length, drop, replicate, length-set}
+use mathlib.Core.Path.{◌≡◌, ◌∙◌}
+use lib.ListN.{length, length-set}
 use borrow.Author.Fill.{fill_more}
 use borrow.Author.Tests.{le-leb, lt-leb}
 use Rattle.room.specs.Room.{needed, cleared}
@@ -19,13 +17,12 @@ returns-then-room-count c =
 
 pub loop-i-preserved : goal.loop-i-preserved
 loop-i-preserved c =
-    let at-loop = c in
-    let a = at-loop.args in
-    let i = at-loop.loop-i.i in
+    let a = c.args in
+    let i = c.loop-i.i in
     let within : i + 1 ≤ needed a.size = omega arith in (
-      rw at-loop.loop-i.invariant.0 (fill_more i 0 a.room.now (omega arith)),
+      rw c.loop-i.invariant.0 (fill_more i 0 a.room.now (omega arith)),
       within,
-      length-set at-loop.loop-i.room i 0 ∙ at-loop.loop-i.invariant.2,
+      length-set c.loop-i.room i 0 ∙ c.loop-i.invariant.2,
     )
 
 pub returns : goal.returns

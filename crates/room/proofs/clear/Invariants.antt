@@ -1,13 +1,10 @@
 -- `room::clear` meets its contract. The invariant of its loop: the first i numbers are 0 and the others as they were, and i
 -- is within the needed room; the measure is what is left of that.
-use Prim.Native.Nat.{◌+◌, ◌-◌, ◌≤◌}
-use native.Mathlib.Omega.{arith}
-use mathlib.Core.Path.{◌≡◌, refl, ◌∙◌}
+use Prim.Native.Nat.{◌-◌, ◌≤◌}
+use mathlib.Core.Path.{◌≡◌}
 use mathlib.Core.List.{◌++◌}
-use lib.ListN.{length, drop, replicate, length-set}
-use borrow.Author.Fill.{fill_more}
-use borrow.Author.Tests.{le-leb, lt-leb}
-use Rattle.room.specs.Room.{needed, cleared}
+use lib.ListN.{length, drop, replicate}
+use Rattle.room.specs.Room.{needed}
 use Rattle.room.proofs.clear.Given as goal
 
 abbrev pub invariant-loop-i : goal.invariant-loop-i

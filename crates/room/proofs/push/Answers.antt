@@ -1,12 +1,9 @@
 -- `room::push` meets its contract: without a place or with too short a room nothing is written; else the place below the start is
 -- one of the room's.
-use Rattle.std.proofs.Common.{rules}
-use Prim.Native.Nat.{◌<◌}
 use native.Mathlib.Omega.{arith}
 use lib.ListN.{length}
 use borrow.Author.Tests.{le-leb, lt-leb, le-ltb, lt-ltb}
-use Rattle.room.specs.Room.{needed, below, pushed}
-use Rattle.room.proofs.Laws.{below_place}
+use Rattle.room.specs.Room.{needed, pushed}
 use Rattle.room.proofs.push.Goals as goal
 
 pub returns-then-size-start : goal.returns-then-size-start

@@ -1,5 +1,4 @@
 -- `room::record_at` meets its contract: by the law on a record's number; past the room's end each number is the default.
-use Rattle.std.proofs.Common.{rules}
 use Prim.Native.Nat.{ℕ, ◌+◌, ◌*◌, ◌≤◌}
 use native.Mathlib.Omega.{arith}
 use mathlib.Core.List.{List}

@@ -1,8 +1,5 @@
 -- What lent numbers hold: each of the numbers is read within the slice, and the tests are those of the definition.
-use Rattle.std.proofs.Common.{rules}
-use Prim.Native.Nat.{ℕ}
 use borrow.Author.Tests.{lt-leb, le-leb}
-use mathlib.Core.List.{List}
 use native.Mathlib.Omega.{arith}
 use lib.ListN.{length}
 use Rattle.state.specs.Parts.{state_numbers}

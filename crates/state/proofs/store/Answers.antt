@@ -1,8 +1,7 @@
 -- The stores in a row are the state's numbers in front of what stood past them.
-use Rattle.std.proofs.Common.{rules}
 use borrow.Author.Tests.{lt-leb, le-leb}
 use native.Mathlib.Omega.{arith}
-use lib.ListN.{length, length-set}
+use lib.ListN.{length}
 use lib.Seq.{sets-eq}
 use Rattle.state.specs.Parts.{state_numbers, words_of}
 use Rattle.state.specs.Words.{stored}

@@ -1,5 +1,4 @@
 -- One operation, as defined: what the turn answers is put in.
-use Rattle.std.proofs.Common.{rules}
 use Rattle.stream.specs.Stream.{operated}
 use Rattle.stream.proofs.operate.Goals as goal
 

@@ -1,6 +1,5 @@
 -- The next operation, as defined: the tests are made in the definition's order.
-use Rattle.std.proofs.Common.{rules}
-use Rattle.std.proofs.Common.{length, sym, arith, length-take-le, rules, le-ltb, lt-ltb, le-leb}
+use Rattle.std.proofs.Common.{length, arith, le-ltb, lt-ltb, le-leb}
 use borrow.Author.Tests.{lt-leb}
 use Rattle.stream.specs.Stream.{next}
 use Rattle.stream.proofs.replay_next.Goals as goal
@@ -20,7 +19,5 @@ returns-then-input-end c =
 pub returns : goal.returns
 unfolding next
 returns c =
-    let done = c in
-    let else2 = done in
-    let a = else2.args in
-    rw (lt-leb a.p.end a.p.at (omega arith), le-ltb (length a.input.now) a.p.end (omega arith)) done.operate.ensures
+    let a = c.args in
+    rw (lt-leb a.p.end a.p.at (omega arith), le-ltb (length a.input.now) a.p.end (omega arith)) c.operate.ensures

@@ -1,6 +1,4 @@
 -- Both sums as they are answered, as defined: each way out knows its cases.
-use Rattle.std.proofs.Common.{rules}
-use borrow.Author.Tests.{not-true, not-false}
 use Rattle.sum.specs.Total.{both_ends}
 use Rattle.sum.proofs.both_ends.Goals as goal
 
@@ -13,22 +11,16 @@ returns-in_default c =
 pub returns-then-not-bounded : goal.returns-then-not-bounded
 unfolding both_ends
 returns-then-not-bounded c =
-    let t = c in
-    let l = t in
-    rw (l.in-Fits.is, t.if-not-bounded.true, c.at_least.ensures)
+    rw (c.in-Fits.is, c.if-not-bounded.true, c.at_least.ensures)
 
 -- It is, and its sum passes.
 pub returns-in_default-high : goal.returns-in_default-high
 unfolding both_ends
 returns-in_default-high c =
-    let t = c in
-    let l = t in
-    rw (l.in-Fits.is, t.if-not-bounded.false, c.in_default-high.is, c.refused-in_default-high.ensures)
+    rw (c.in-Fits.is, c.if-not-bounded.false, c.in_default-high.is, c.refused-in_default-high.ensures)
 
 -- It is, and its sum fits.
 pub returns : goal.returns
 unfolding both_ends
 returns c =
-    let t = c in
-    let l = t in
-    rw (l.in-Fits.is, t.if-not-bounded.false, c.in-Fits-high.is, c.from_to.ensures)
+    rw (c.in-Fits.is, c.if-not-bounded.false, c.in-Fits-high.is, c.from_to.ensures)

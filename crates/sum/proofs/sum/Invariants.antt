@@ -1,10 +1,7 @@
 -- What is left of the run and the sums so far are those of all of it (`Left`): each turn adds both ends of one encoding. Assumes nothing.
-use Prim.Native.Nat.{suc, ◌+◌, ◌-◌}
-use mathlib.Core.Path.{◌≡◌, ap, ◌∙◌}
-use native.Mathlib.Omega.{arith}
-use lib.ListN.{length, get_or}
-use Rattle.count.specs.Count.{decoded, spread_of}
-use Rattle.sum.proofs.Left.{Left, begins, turned, outside, ended}
+use Prim.Native.Nat.{◌-◌}
+use lib.ListN.{length}
+use Rattle.sum.proofs.Left.{Left}
 use Rattle.sum.proofs.sum.Given as goal
 
 abbrev pub invariant-loop-i : goal.invariant-loop-i

@@ -1,12 +1,9 @@
 -- Digits are counted one a turn: those counted and those of what is left make the digits of n. k is the count still allowed,
 -- and the count grows by no more than the rest falls.
-use Rattle.std.proofs.Common.{rules}
 use Prim.Native.Nat.{ℕ, zero, suc, ◌+◌, ◌*◌, ◌/◌, ◌^◌, ◌≤◌, ◌<◌}
-use mathlib.Core.Path.{◌≡◌}
 use native.Mathlib.Nat.{pow-suc, pow-zero, div-lt_self, div-lt_iff_lt-mul}
 use native.Mathlib.Omega.{arith}
-use borrow.Author.Tests.{lt-ltb, le-ltb}
-use Rattle.text.specs.Text.{digit_count}
+use borrow.Author.Tests.{le-ltb}
 use Rattle.text.proofs.digit_count.Invariants.{Counted}
 use Rattle.text.proofs.digit_count.Goals as goal
 

@@ -1,10 +1,7 @@
 -- Digits are counted one a turn: those counted and those of what is left make the digits of n. k is the count still allowed,
 -- and the count grows by no more than the rest falls.
-use Prim.Native.Nat.{ℕ, zero, suc, ◌+◌, ◌*◌, ◌/◌, ◌^◌, ◌≤◌, ◌<◌}
+use Prim.Native.Nat.{ℕ, suc, ◌+◌, ◌^◌, ◌≤◌, ◌<◌}
 use mathlib.Core.Path.{◌≡◌}
-use native.Mathlib.Nat.{pow-suc, pow-zero, div-lt_self, div-lt_iff_lt-mul}
-use native.Mathlib.Omega.{arith}
-use borrow.Author.Tests.{lt-ltb, le-ltb}
 use Rattle.text.specs.Text.{digit_count}
 use Rattle.text.proofs.digit_count.Given as goal
 

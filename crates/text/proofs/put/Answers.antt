@@ -1,11 +1,8 @@
 -- A text is copied from its front: what is left of it, stored from here on, is the whole of it stored from its place on.
-use Rattle.std.proofs.Common.{rules}
-use Prim.Native.Nat.{◌+◌, ◌-◌, ◌≤◌, suc}
-use mathlib.Core.Path.{◌≡◌, refl, ◌∙◌}
-use native.Mathlib.Numerals.{add-one}
+use mathlib.Core.Path.{◌≡◌, ◌∙◌}
 use native.Mathlib.Omega.{arith}
-use lib.ListN.{length, drop, length-set}
-use lib.Seq.{sets, drop-cons, drop-length}
+use lib.ListN.{length}
+use lib.Seq.{drop-length}
 use Rattle.number.proofs.Laws.{sets_written}
 use Rattle.text.proofs.put.Goals as goal
 

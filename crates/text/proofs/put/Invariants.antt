@@ -1,11 +1,8 @@
 -- A text is copied from its front: what is left of it, stored from here on, is the whole of it stored from its place on.
-use Prim.Native.Nat.{◌+◌, ◌-◌, ◌≤◌, suc}
-use mathlib.Core.Path.{◌≡◌, refl, ◌∙◌}
-use native.Mathlib.Numerals.{add-one}
-use native.Mathlib.Omega.{arith}
-use lib.ListN.{length, drop, length-set}
-use lib.Seq.{sets, drop-cons, drop-length}
-use Rattle.number.proofs.Laws.{sets_written}
+use Prim.Native.Nat.{◌+◌, ◌-◌, ◌≤◌}
+use mathlib.Core.Path.{◌≡◌}
+use lib.ListN.{length, drop}
+use lib.Seq.{sets}
 use Rattle.text.proofs.put.Given as goal
 
 abbrev pub invariant-loop-j : goal.invariant-loop-j

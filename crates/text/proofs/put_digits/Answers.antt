@@ -1,11 +1,7 @@
 -- Digits are stored from the last to the first: the digits that are left, stored from the place on, are all of them stored.
-use Rattle.std.proofs.Common.{rules}
-use Prim.Native.Nat.{◌≤◌}
-use mathlib.Core.Path.{◌≡◌, refl, sym, ◌∙◌}
-use native.Mathlib.Nat.{mod-lt}
+use mathlib.Core.Path.{◌≡◌, sym, ◌∙◌}
 use native.Mathlib.Omega.{arith}
-use lib.ListN.{length, length-set}
-use lib.Seq.{sets}
+use lib.ListN.{length-set}
 use Rattle.number.proofs.Laws.{sets_written}
 use Rattle.text.specs.Text.{digits}
 use Rattle.text.proofs.Laws.{length_digits, one_less, none_left}

@@ -1,13 +1,9 @@
 -- Digits are stored from the last to the first: the digits that are left, stored from the place on, are all of them stored.
 use Prim.Native.Nat.{◌≤◌}
-use mathlib.Core.Path.{◌≡◌, refl, sym, ◌∙◌}
-use native.Mathlib.Nat.{mod-lt}
-use native.Mathlib.Omega.{arith}
-use lib.ListN.{length, length-set}
+use mathlib.Core.Path.{◌≡◌}
+use lib.ListN.{length}
 use lib.Seq.{sets}
-use Rattle.number.proofs.Laws.{sets_written}
 use Rattle.text.specs.Text.{digits}
-use Rattle.text.proofs.Laws.{length_digits, one_less, none_left}
 use Rattle.text.proofs.put_digits.Given as goal
 
 abbrev pub invariant-loop-left : goal.invariant-loop-left

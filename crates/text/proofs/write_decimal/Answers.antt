@@ -1,5 +1,4 @@
 -- A number in decimal has as many digits in base 10 as were counted.
-use Rattle.std.proofs.Common.{rules}
 use native.Mathlib.Omega.{arith}
 use Rattle.text.specs.Text.{decimal, decimal_count}
 use Rattle.text.proofs.write_decimal.Goals as goal

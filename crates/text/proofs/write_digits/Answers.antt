@@ -1,5 +1,4 @@
 -- Digits are written where they have room, else nothing is.
-use Rattle.std.proofs.Common.{rules}
 use mathlib.Core.Path.{◌∙◌, sym}
 use native.Mathlib.Omega.{arith}
 use Rattle.text.specs.Text.{digits}

@@ -1,5 +1,4 @@
 -- A number in hexadecimal has as many digits in base 16 as were counted.
-use Rattle.std.proofs.Common.{rules}
 use native.Mathlib.Omega.{arith}
 use Rattle.text.specs.Text.{hexadecimal}
 use Rattle.text.proofs.write_shortest_hexadecimal.Goals as goal

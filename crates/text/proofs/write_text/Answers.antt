@@ -1,5 +1,4 @@
 -- A text is written where it has room, else nothing is: the tests subtract, so that no sum wraps.
-use Rattle.std.proofs.Common.{rules}
 use mathlib.Core.Path.{◌∙◌}
 use native.Mathlib.Omega.{arith}
 use Rattle.number.proofs.Written.{no_room, room}

@@ -1,7 +1,5 @@
 -- The filter bit of each type, as defined: each arm knows the code that it stands for, the last that it is none of them.
-use Rattle.std.proofs.Common.{rules}
 use borrow.Author.Tests.{ne_eqb}
-use native.Mathlib.Omega.{arith}
 use Rattle.filter.specs.Filter.{filter_bit}
 use Rattle.filter.proofs.BranchType.filter_bit.Goals as goal
 

@@ -1,5 +1,4 @@
 -- The filter, as defined: a bit at a variable place is a shift, and the place is below 64.
-use Rattle.std.proofs.Common.{rules}
 use Rattle.filter.specs.Filter.{passes_filter}
 use Rattle.filter.proofs.BranchType.passes_filter.Goals as goal
 

@@ -1,5 +1,4 @@
 -- One number more, as defined: the test says whether the sum fits, and one that has passed stays so.
-use Rattle.std.proofs.Common.{rules}
 use mathlib.Core.Path.{sym}
 use native.Mathlib.Omega.{arith}
 use Rattle.sum.specs.Total.{plus}
