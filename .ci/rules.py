@@ -134,17 +134,27 @@ def public_functions():
             yield crate, kind if m[2] else None, m[3], text[m.end():end.start() if end else len(text)]
 
 
+def promises_of(head):
+    """The texts of the clauses that say what holds afterwards, which stand in braces, as braces of their own may."""
+    texts = []
+    for m in re.finditer(r"^\s*ensures\*?(?: \w+)? \{", head, re.M):
+        depth, end = 1, m.end()
+        while depth and end < len(head):
+            depth += {"{": 1, "}": -1}.get(head[end], 0)
+            end += 1
+        texts.append(head[m.end():end - 1])
+    return texts
+
+
 def undecided(head):
     """What a function leaves open: its result, or a slice that it may change."""
-    clauses = re.findall(r"ensures\b[^{]*\{(.*?)⌝ \}", head, re.S)
+    clauses = promises_of(head)
     signature = re.split(r"\n\s*(?:requires|ensures)\b", head)[0]
     left = []
-    if "->" in signature:
-        names = [m[1] for c in clauses for m in [re.match(r" *λ (\w+)\.", c)] if m]
-        if not any("≡" in c and re.search(r"\b%s\b" % n, c.split(".", 1)[1]) for c, n in zip(clauses, names) if n != "_"):
-            left.append("its result")
+    if "->" in signature and not any("≡" in c and re.search(r"\bresult\b", c) for c in clauses):
+        left.append("its result")
     for name in re.findall(r"(\w+): &(?:'\w+ )?mut\b", signature):
-        if not any("≡" in c and re.search(r"now \(%s \.exit\)" % name, c) for c in clauses):
+        if not any("≡" in c and re.search(r"\b%s\.new\b" % name, c) for c in clauses):
             left.append("`%s`" % name)
     return left
 

@@ -1,7 +1,7 @@
-/* A proved model of one processor's Arm branch record buffer (BRBE), version 4.1.0. docs/MANUAL.md says all of it: what
+/* A proved model of one processor's Arm branch record buffer (BRBE), version 4.0.0. docs/MANUAL.md says all of it: what
  * each operation does, each register, each refusal.
  *
- * What changed for a host in 4.1.0: brb_compare tells where two recordings part. In 4.0.0: records no longer move in the
+ * Added since 4.0.0: brb_compare tells where two recordings part. What changed for a host in 4.0.0: records no longer move in the
  * room. A state has twelve numbers, the last of which says at which place record 0 stands, so that a host that lends eleven
  * of its own is answered 7; one that goes by BRB_STATE_NUMBERS and begins with zeros needs to be compiled again.
  * brb_bank_inf, brb_bank_source and brb_bank_target take that number after the size. A host that looked into the room itself,
@@ -72,9 +72,9 @@ extern "C" {
 /* This header's version. It grows in MAJOR where a host has to change, in MINOR where something is added or an answer becomes
  * another. */
 #define BRB_VERSION_MAJOR 4
-#define BRB_VERSION_MINOR 1
+#define BRB_VERSION_MINOR 0
 #define BRB_VERSION_PATCH 0
-#define BRB_VERSION "4.1.0"
+#define BRB_VERSION "4.0.0"
 
 /* A constant of 64 bits. C89 has no literal for it, and C++ warns of C's casts. */
 #ifdef __cplusplus
