@@ -53,8 +53,8 @@
  * Refusals are checked in the order 7, 2, 3, 4, 8, 5, 6, 9 (in the bank view 4, 7, 6), and have the value 0. A refused operation's
  * cycles do not count.
  *
- * The archive, libbrb.a, is for Linux on x86-64 (x86_64-unknown-linux-gnu: ELF, the System V calling convention), and calls
- * memset of the C library and nothing else. Its code is position independent; it becomes a shared library by
+ * The archive, libbrb.a, is for Linux on x86-64 (x86_64-unknown-linux-gnu: ELF, the System V calling convention; processors of
+ * level x86-64-v2), and calls memset of the C library and nothing else. Its code is position independent; it becomes a shared library by
  *     gcc -shared -o libbrb.so -Wl,--whole-archive libbrb.a -Wl,--no-whole-archive
  *
  * This file stands alone, from C89 to C23 and from C++98 to C++23. It takes uint64_t from <stdint.h>, which C89 and C++98
