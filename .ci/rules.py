@@ -16,6 +16,8 @@
 2. Every public function of the crates is named on PROMISES, and decides its result and its lent memory by equations, or is
    listed there under "Exceptions".
 3. Every public definition in specs/ has a comment above it.
+
+While PORTING-LEFT.md stands, names of crates that it has and that are not in crates/ are not looked up, and no quoted statements.
 """
 import glob
 import os
@@ -44,6 +46,7 @@ def joined(*patterns):
 
 
 CRATES = sorted(d for d in os.listdir(os.path.join(ROOT, "crates")))
+LEFT = set(re.findall(r"\w+", read("PORTING-LEFT.md") or "")) - set(CRATES)
 LOGIC = joined("crates/*/specs/**/*.antt", "crates/*/proofs/**/*.antt", "crates/*/src/*.rt", "include/brb.h")
 WORDS = set(re.findall(r"[^\W\d][\w-]*", LOGIC))
 TESTS = joined("tests/**/*.rs", "rust/**/*.rs")
@@ -113,6 +116,8 @@ def looked_up(bad):
         for number, line in enumerate((read(page) or "").splitlines(), 1):
             for name in re.findall(r"`([^`]+)`", line):
                 if page in OTHER_PAGES and not of_a_crate(name):
+                    continue
+                if LEFT and (" " in name or re.split(r"\W", name.removeprefix("crates/"))[0] in LEFT):
                     continue
                 checked += 1
                 why = missing(name)
