@@ -1,7 +1,7 @@
-/* A proved model of one processor's Arm branch record buffer (BRBE), version 4.1.0. docs/MANUAL.md says all of it: what
+/* A proved model of one processor's Arm branch record buffer (BRBE), version 4.0.0. docs/MANUAL.md says all of it: what
  * each operation does, each register, each refusal.
  *
- * What changed for a host in 4.1.0: brb_compare tells where two recordings part. In 4.0.0: records no longer move in the
+ * Added since 4.0.0: brb_compare tells where two recordings part. What changed for a host in 4.0.0: records no longer move in the
  * room. A state has twelve numbers, the last of which says at which place record 0 stands, so that a host that lends eleven
  * of its own is answered 7; one that goes by BRB_STATE_NUMBERS and begins with zeros needs to be compiled again.
  * brb_bank_inf, brb_bank_source and brb_bank_target take that number after the size. A host that looked into the room itself,
@@ -53,8 +53,8 @@
  * Refusals are checked in the order 7, 2, 3, 4, 8, 5, 6, 9 (in the bank view 4, 7, 6), and have the value 0. A refused operation's
  * cycles do not count.
  *
- * The archive, libbrb.a, is for Linux on x86-64 (x86_64-unknown-linux-gnu: ELF, the System V calling convention), and calls
- * memset of the C library and nothing else. Its code is position independent; it becomes a shared library by
+ * The archive, libbrb.a, is for Linux on x86-64 (x86_64-unknown-linux-gnu: ELF, the System V calling convention; processors of
+ * level x86-64-v2), and calls memset of the C library and nothing else. Its code is position independent; it becomes a shared library by
  *     gcc -shared -o libbrb.so -Wl,--whole-archive libbrb.a -Wl,--no-whole-archive
  *
  * This file stands alone, from C89 to C23 and from C++98 to C++23. It takes uint64_t from <stdint.h>, which C89 and C++98
@@ -72,9 +72,9 @@ extern "C" {
 /* This header's version. It grows in MAJOR where a host has to change, in MINOR where something is added or an answer becomes
  * another. */
 #define BRB_VERSION_MAJOR 4
-#define BRB_VERSION_MINOR 1
+#define BRB_VERSION_MINOR 0
 #define BRB_VERSION_PATCH 0
-#define BRB_VERSION "4.1.0"
+#define BRB_VERSION "4.0.0"
 
 /* A constant of 64 bits. C89 has no literal for it, and C++ warns of C's casts. */
 #ifdef __cplusplus

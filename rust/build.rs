@@ -22,7 +22,7 @@ fn link() -> Result<(), String> {
     if !archive.is_file() {
         let archive = archive.display();
         return Err(format!(
-            "{archive} is missing: `rt staticlib brb` in the model's repository writes target/staticlib/libbrb.a"
+            "{archive} is missing: `tools/build brb` in the model's repository writes target/staticlib/libbrb.a"
         ));
     }
     println!("cargo:rustc-link-search=native={}", folder.display());

@@ -14,11 +14,11 @@ const fn field(high: u32, low: u32) -> u64 {
 /// The first part of the version, which grows where a host has to change.
 pub const VERSION_MAJOR: u64 = 4;
 /// The second part of the version, which grows where something is added or an answer becomes another.
-pub const VERSION_MINOR: u64 = 1;
+pub const VERSION_MINOR: u64 = 0;
 /// The third part of the version.
 pub const VERSION_PATCH: u64 = 0;
 /// The version as text.
-pub const VERSION: &str = "4.1.0";
+pub const VERSION: &str = "4.0.0";
 
 /// Code of a reset.
 pub const CODE_RESET: u64 = 0;

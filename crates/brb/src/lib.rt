@@ -1,5 +1,6 @@
 // The functions that a C host calls, on numbers and lent memory (document 01, "Forms for each place"; docs/MANUAL.md, "From C").
-// include/brb.h says what each number means. Everything is decided below: this crate holds exports only.
+// include/brb.h says what each number means. Everything is decided below: this crate says what a host hands over and is answered, and
+// the crate brb_c exports each of its functions to C under the same name.
 #![tactic(auto)]
 
 ghost use Rattle.std.specs.Prelude.{◌≡◌};
@@ -24,8 +25,7 @@ use recording::{Numbers, Reading, operation_at, store_numbers, write_operation};
 use state::{Loaded, load};
 
 // One operation.
-#[unsafe(no_mangle)]
-pub extern "C" fn brb_step(
+pub fn brb_step(
     state: &mut [u64],
     room: &mut [u64],
     code: u64,
@@ -42,29 +42,21 @@ pub extern "C" fn brb_step(
 }
 
 // A read: code 5.
-#[unsafe(no_mangle)]
-pub extern "C" fn brb_read(
-    state: &mut [u64],
-    room: &mut [u64],
-    cycles: u64,
-    register: u64,
-) -> Returned
+pub fn brb_read(state: &mut [u64], room: &mut [u64], cycles: u64, register: u64) -> Returned
     ensures { together result state.new room.new ≡ step_result state.old 5 cycles register 0 0 0 room.old }
 {
     brb_step(state, room, 5, cycles, register, 0, 0, 0)
 }
 
 // A count as BRBINF's CC field.
-#[unsafe(no_mangle)]
-pub extern "C" fn brb_count_encode(n: u64) -> u64
+pub fn brb_count_encode(n: u64) -> u64
     ensures { result ≡ encoded n }
 {
     count::encode(n)
 }
 
 // What a CC field says: both ends of the counts that have it.
-#[unsafe(no_mangle)]
-pub extern "C" fn brb_count_decode(cc: u64) -> Spread
+pub fn brb_count_decode(cc: u64) -> Spread
     ensures { result ≡ spread_of (decoded cc) }
 {
     let decoded = count::decode(cc);
@@ -72,16 +64,14 @@ pub extern "C" fn brb_count_decode(cc: u64) -> Spread
 }
 
 // The sum of a run of CC fields, both ends.
-#[unsafe(no_mangle)]
-pub extern "C" fn brb_count_sum(run: &[u64]) -> Spread
+pub fn brb_count_sum(run: &[u64]) -> Spread
     ensures { result ≡ summed run.now }
 {
     sum::sum(run)
 }
 
 // BRBINF of register m, as one bank of a room shows it.
-#[unsafe(no_mangle)]
-pub extern "C" fn brb_bank_inf(room: &[u64], size: u64, start: u64, bank: u64, m: u64) -> Returned
+pub fn brb_bank_inf(room: &[u64], size: u64, start: u64, bank: u64, m: u64) -> Returned
     ensures { result ≡ returned (bank_shows (λ x. x.inf) size start bank m room.now) }
 {
     let shown = bank_inf(room, size, start, bank, m);
@@ -89,14 +79,7 @@ pub extern "C" fn brb_bank_inf(room: &[u64], size: u64, start: u64, bank: u64, m
 }
 
 // BRBSRC of register m, as one bank of a room shows it.
-#[unsafe(no_mangle)]
-pub extern "C" fn brb_bank_source(
-    room: &[u64],
-    size: u64,
-    start: u64,
-    bank: u64,
-    m: u64,
-) -> Returned
+pub fn brb_bank_source(room: &[u64], size: u64, start: u64, bank: u64, m: u64) -> Returned
     ensures { result ≡ returned (bank_shows (λ x. x.source) size start bank m room.now) }
 {
     let shown = bank_source(room, size, start, bank, m);
@@ -104,14 +87,7 @@ pub extern "C" fn brb_bank_source(
 }
 
 // BRBTGT of register m, as one bank of a room shows it.
-#[unsafe(no_mangle)]
-pub extern "C" fn brb_bank_target(
-    room: &[u64],
-    size: u64,
-    start: u64,
-    bank: u64,
-    m: u64,
-) -> Returned
+pub fn brb_bank_target(room: &[u64], size: u64, start: u64, bank: u64, m: u64) -> Returned
     ensures { result ≡ returned (bank_shows (λ x. x.target) size start bank m room.now) }
 {
     let shown = bank_target(room, size, start, bank, m);
@@ -138,8 +114,7 @@ fn returned_at(answer: Answer, next: usize) -> BrbRecorded
 }
 
 // The operation at a place of a recording, as six lent numbers.
-#[unsafe(no_mangle)]
-pub extern "C" fn brb_recording_read(bytes: &[u8], at: usize, lent: &mut [u64]) -> Returned
+pub fn brb_recording_read(bytes: &[u8], at: usize, lent: &mut [u64]) -> Returned
     ensures { read_into result lent.new ≡ read_result bytes.now at lent.old }
 {
     if lent.len() < 6 {
@@ -155,8 +130,7 @@ pub extern "C" fn brb_recording_read(bytes: &[u8], at: usize, lent: &mut [u64]) 
 }
 
 // An operation at a place of lent bytes.
-#[unsafe(no_mangle)]
-pub extern "C" fn brb_recording_write(
+pub fn brb_recording_write(
     bytes: &mut [u8],
     at: usize,
     code: u64,
@@ -174,8 +148,7 @@ pub extern "C" fn brb_recording_write(
 }
 
 // One operation of a recording. The state is loaded and judged first, so that after 7 nothing was read.
-#[unsafe(no_mangle)]
-pub extern "C" fn brb_step_recorded(
+pub fn brb_step_recorded(
     state: &mut [u64],
     room: &mut [u64],
     bytes: &[u8],
@@ -197,13 +170,7 @@ pub extern "C" fn brb_step_recorded(
 }
 
 // A run of recorded operations.
-#[unsafe(no_mangle)]
-pub extern "C" fn brb_batch(
-    state: &mut [u64],
-    room: &mut [u64],
-    bytes: &[u8],
-    answers: &mut [u64],
-) -> Returned
+pub fn brb_batch(state: &mut [u64], room: &mut [u64], bytes: &[u8], answers: &mut [u64]) -> Returned
     ensures { batched result state.new room.new answers.new ≡ batch_result state.old room.old bytes.now answers.old }
 {
     let answer = batch(state, room, bytes, answers);
@@ -211,8 +178,7 @@ pub extern "C" fn brb_batch(
 }
 
 // Where two recordings part.
-#[unsafe(no_mangle)]
-pub extern "C" fn brb_compare<'a>(first: &'a [u8], second: &'a [u8]) -> Parting
+pub fn brb_compare<'a>(first: &'a [u8], second: &'a [u8]) -> Parting
     ensures { result ≡ parting_of first.now second.now }
 {
     compare_in_numbers(first, second)
