@@ -39,7 +39,7 @@ pub fn flush(program: Program, bytes: &[u8], waiting: usize) -> bool {
     match program.write(&bytes[..n]) {
         Ok(()) => true,
         Err(error) => {
-            program.say_name();
+            program.say(program.name());
             program.say(b": standard output");
             program.say_error(error);
             false

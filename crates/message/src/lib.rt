@@ -35,7 +35,7 @@ fn is_standard(name: &[u8]) -> bool {
 
 // `PROGRAM: FILE`, of the input that has this name among the arguments.
 pub fn say_input(program: Program, name: &[u8]) {
-    program.say_name();
+    program.say(program.name());
     program.say(b": ");
     if is_standard(name) {
         program.say(b"standard input");
