@@ -5,6 +5,7 @@ ghost use Rattle.std.specs.Prelude.{◌+◌, ◌≤◌, min, ◌≡◌, length};
 ghost use Rattle.buffer.specs.Buffer.{waiting, moved_down, IsPrefixLen};
 
 use program::Program;
+use std::io::Error;
 
 // The bytes that a program's output has room for.
 pub const ROOM: usize = 65_536;
@@ -33,15 +34,20 @@ pub fn forward(at: usize, n: usize) -> usize
     at + n
 }
 
+// What the system has against standard output: `replay: standard output: No space left on device`.
+pub fn say_unwritten(program: Program, error: Error) {
+    program.say(program.name());
+    program.say(b": standard output");
+    program.say_error(error);
+}
+
 // The first bytes go out to standard output. Answers whether they did; a message says so where not.
 pub fn flush(program: Program, bytes: &[u8], waiting: usize) -> bool {
     let n = within(waiting, bytes);
     match program.write(&bytes[..n]) {
         Ok(()) => true,
         Err(error) => {
-            program.say(program.name());
-            program.say(b": standard output");
-            program.say_error(error);
+            say_unwritten(program, error);
             false
         }
     }
