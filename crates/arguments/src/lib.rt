@@ -3,23 +3,30 @@
 // are, whether a file opens, and what is written.
 #![tactic(auto)]
 
-ghost use Rattle.std.specs.Prelude.{◌≡◌};
-ghost use Rattle.arguments.specs.Arguments.{same_text, option_of, word_of, with_help, with_version, with_numbers, with_rest, with_wrong, with_input, with_word, with_text, next_of, source_of};
+ghost use Rattle.std.specs.Prelude.{◌≡◌, ◌≤◌, length};
+ghost use Rattle.arguments.specs.Arguments.{same_text, option_of, word_of, with_help, with_version, with_numbers, with_rest, with_wrong, with_input, with_word, with_text, next_of, source_of, with_input_two, with_word_two, with_text_two, lacks_second};
 
-use libc::{STDERR_FILENO, STDIN_FILENO, STDOUT_FILENO};
 use message::{say_shown, say_unread};
+use program::{Program, Reader};
+use std::env::FillError;
+use std::io::{Error, Read};
+
+// An argument has fewer bytes than this.
+const MOST: usize = 4096;
+
+const TOO_LONG: &[u8] = b"an argument is too long";
 
 // What a program is to read.
-#[derive(Clone, Copy)]
+#[derive(Drop)]
 pub enum Input {
-    // A descriptor that is open for reading.
-    Opened(i32),
+    // What is open for reading.
+    Opened(Reader),
     // Nothing: help was asked for and printed, or a message says what is wrong.
     Nothing,
 }
 
 // What a program is called with.
-#[derive(Clone, Copy)]
+#[derive(Drop)]
 pub struct Called {
     pub input: Input,
     // `--numbers` was given.
@@ -29,7 +36,7 @@ pub struct Called {
 }
 
 // The same of a program that takes two inputs.
-#[derive(Clone, Copy)]
+#[derive(Drop)]
 pub struct CalledTwo {
     pub first: Input,
     pub second: Input,
@@ -63,11 +70,17 @@ struct Seen {
     rest: bool,
     // The place of the input's name among the arguments; 0, the program's own, while there is none.
     name: usize,
-    // Whether the program takes two inputs, and the place of the second's name, or 0.
-    two: bool,
-    second: usize,
     // A message was written: nothing is to be read.
     wrong: bool,
+}
+
+// The same where a program takes two inputs.
+#[derive(Clone, Copy)]
+struct SeenTwo {
+    // `name` is the place of the first input's name.
+    seen: Seen,
+    // The place of the second's, or 0.
+    second: usize,
 }
 
 // What a program does once it has seen its arguments.
@@ -78,8 +91,6 @@ enum Next {
     Usage,
     // It prints its version.
     Version,
-    // It says that an input is missing.
-    Missing,
     // It opens the input whose name stands at this place.
     Open(usize),
 }
@@ -148,16 +159,16 @@ fn word_of(text: &[u8]) -> Word
 }
 
 // `PROGRAM: what text; try --help`.
-fn complain(program: &[u8], what: &[u8], text: &[u8]) {
-    io::write_all(STDERR_FILENO, program);
-    io::write_all(STDERR_FILENO, b": ");
-    io::write_all(STDERR_FILENO, what);
-    say_shown(text);
-    io::write_all(STDERR_FILENO, b"; try --help\n");
+fn complain(program: Program, what: &[u8], text: &[u8]) {
+    program.say(program.name());
+    program.say(b": ");
+    program.say(what);
+    say_shown(program, text);
+    program.say(b"; try --help\n");
 }
 
 // The same, with nothing to read from here on.
-fn refuse(program: &[u8], what: &[u8], text: &[u8], mut seen: Seen) -> Seen
+fn refuse(program: Program, what: &[u8], text: &[u8], mut seen: Seen) -> Seen
     ensures { result ≡ with_wrong seen }
 {
     complain(program, what, text);
@@ -165,22 +176,15 @@ fn refuse(program: &[u8], what: &[u8], text: &[u8], mut seen: Seen) -> Seen
     seen
 }
 
-// An input's name, at place i: there is one at most, or two where the program takes two.
-fn named(program: &[u8], i: usize, text: &[u8], mut seen: Seen) -> Seen
+// The input's name, at place i: there is one at most.
+fn named(program: Program, i: usize, text: &[u8], mut seen: Seen) -> Seen
     ensures { result ≡ with_input i seen }
 {
-    if seen.name == 0 {
-        seen.name = i;
-        return seen;
-    }
-    if !seen.two {
+    if seen.name != 0 {
         return refuse(program, b"a second input, ", text, seen);
     }
-    if seen.second == 0 {
-        seen.second = i;
-        return seen;
-    }
-    refuse(program, b"a third input, ", text, seen)
+    seen.name = i;
+    seen
 }
 
 fn helped(mut seen: Seen) -> Seen
@@ -213,7 +217,7 @@ fn rested(mut seen: Seen) -> Seen
 
 // What the arguments say with the one at place i, whose text this is, where options may stand. `numbers`: the program has
 // that option.
-fn with_word(program: &[u8], numbers: bool, i: usize, text: &[u8], seen: Seen) -> Seen
+fn with_word(program: Program, numbers: bool, i: usize, text: &[u8], seen: Seen) -> Seen
     ensures { result ≡ with_word numbers i (word_of text.now) seen }
 {
     match word_of(text) {
@@ -234,7 +238,7 @@ fn with_word(program: &[u8], numbers: bool, i: usize, text: &[u8], seen: Seen) -
 }
 
 // The same anywhere: behind `--` every argument is a name.
-fn with_text(program: &[u8], numbers: bool, i: usize, text: &[u8], seen: Seen) -> Seen
+fn with_text(program: Program, numbers: bool, i: usize, text: &[u8], seen: Seen) -> Seen
     ensures { result ≡ with_text numbers i text.now seen }
 {
     if seen.rest {
@@ -243,37 +247,114 @@ fn with_text(program: &[u8], numbers: bool, i: usize, text: &[u8], seen: Seen) -
     with_word(program, numbers, i, text, seen)
 }
 
-// The same for the argument at place i, which has to be read first.
-fn with_argument(program: &[u8], numbers: bool, i: usize, seen: Seen) -> Seen {
-    let mut text = io::buffer();
-    let length = os::arg(i, &mut text);
-    if os::errno() != 0 {
-        return refuse(program, b"an argument is too long", b"", seen);
+// The same for the argument at place i, which has to be read first. Past them all there is none.
+fn with_argument(program: Program, numbers: bool, i: usize, seen: Seen) -> Option<Seen> {
+    let mut text = [0u8; MOST];
+    match program.argument(i, &mut text) {
+        Ok(n) => Some(with_text(program, numbers, i, &text[..n], seen)),
+        Err(FillError::TooLong) => Some(refuse(program, TOO_LONG, b"", seen)),
+        Err(FillError::NotPresent) => None,
     }
-    with_text(program, numbers, i, &text[..length], seen)
 }
 
-// What all arguments say, from the first after the program's own name up to the first that is wrong.
-fn all_arguments(program: &[u8], numbers: bool, two: bool) -> Seen {
-    let mut seen = Seen {
+// Before the first argument.
+fn nothing_seen() -> Seen {
+    Seen {
         help: false,
         version: false,
         numbers: false,
         rest: false,
         name: 0,
-        two,
-        second: 0,
         wrong: false,
-    };
-    let count = os::arg_count();
-    let mut i = 1;
-    while i < count {
-        if !seen.wrong {
-            seen = with_argument(program, numbers, i, seen);
+    }
+}
+
+// What all arguments say, from the first after the program's own name up to the first that is wrong.
+fn all_arguments(program: Program, numbers: bool) -> Seen {
+    let mut seen = nothing_seen();
+    for i in 1..usize::MAX {
+        if seen.wrong {
+            return seen;
         }
-        i += 1;
+        match with_argument(program, numbers, i, seen) {
+            Some(next) => seen = next,
+            None => return seen,
+        }
     }
     seen
+}
+
+// An input's name, at place i, where the program takes two.
+fn named_two(program: Program, i: usize, text: &[u8], mut both: SeenTwo) -> SeenTwo
+    ensures { result ≡ with_input_two i both }
+{
+    let seen = both.seen;
+    if seen.name == 0 {
+        both.seen = named(program, i, text, seen);
+        return both;
+    }
+    if both.second == 0 {
+        both.second = i;
+        return both;
+    }
+    both.seen = refuse(program, b"a third input, ", text, seen);
+    both
+}
+
+// What the arguments of such a program say with the one at place i, where options may stand. It has the option `--numbers`.
+fn with_word_two(program: Program, i: usize, text: &[u8], mut both: SeenTwo) -> SeenTwo
+    ensures { result ≡ with_word_two i (word_of text.now) both }
+{
+    match word_of(text) {
+        Word::Dash => named_two(program, i, text, both),
+        Word::Name => named_two(program, i, text, both),
+        _ => {
+            both.seen = with_word(program, true, i, text, both.seen);
+            both
+        }
+    }
+}
+
+// The same anywhere.
+fn with_text_two(program: Program, i: usize, text: &[u8], both: SeenTwo) -> SeenTwo
+    ensures { result ≡ with_text_two i text.now both }
+{
+    let seen = both.seen;
+    if seen.rest {
+        return named_two(program, i, text, both);
+    }
+    with_word_two(program, i, text, both)
+}
+
+// The same for the argument at place i, which has to be read first. Past them all there is none.
+fn with_argument_two(program: Program, i: usize, mut both: SeenTwo) -> Option<SeenTwo> {
+    let mut text = [0u8; MOST];
+    match program.argument(i, &mut text) {
+        Ok(n) => Some(with_text_two(program, i, &text[..n], both)),
+        Err(FillError::TooLong) => {
+            both.seen = refuse(program, TOO_LONG, b"", both.seen);
+            Some(both)
+        }
+        Err(FillError::NotPresent) => None,
+    }
+}
+
+// What all arguments of such a program say.
+fn all_arguments_two(program: Program) -> SeenTwo {
+    let mut both = SeenTwo {
+        seen: nothing_seen(),
+        second: 0,
+    };
+    for i in 1..usize::MAX {
+        if both.seen.wrong {
+            return both;
+        }
+        match with_argument_two(program, i, both) {
+            Some(next) => both = next,
+            None => return both,
+        }
+    }
+    both
 }
 
 // What the name at place i of the arguments says; at place 0 there is none.
@@ -293,35 +374,44 @@ fn source_of(i: usize, name: &[u8]) -> Source
 }
 
 // Says what the system has against a file.
-fn unread(program: &[u8], name: &[u8]) -> Input {
-    say_unread(program, name);
+fn unread(program: Program, name: &[u8], error: Error) -> Input {
+    say_unread(program, name, error);
     Input::Nothing
 }
 
 // The file of this name. A folder is opened as well, and tells only when it is read, if no byte is asked for too.
-fn open_file(program: &[u8], name: &[u8]) -> Input {
-    let descriptor = os::open_read(name);
-    if descriptor < 0 {
-        return unread(program, name);
+fn open_file(program: Program, name: &[u8]) -> Input {
+    let mut file = match program.open(name) {
+        Ok(file) => file,
+        Err(error) => return unread(program, name, error),
+    };
+    match file.read(&mut []) {
+        Ok(_) => Input::Opened(file),
+        Err(error) => unread(program, name, error),
     }
-    let mut nothing = io::buffer();
-    if libc::read(descriptor, &mut nothing[..0]) < 0 {
-        return unread(program, name);
+}
+
+// Puts the name at a place of the arguments to the bytes' front, and answers how many bytes it has: none past them all.
+pub fn name_at(program: Program, i: usize, name: &mut [u8]) -> usize
+    ensures { result ≤ length name.new }
+{
+    match program.argument(i, name) {
+        Ok(n) => n,
+        Err(_) => 0,
     }
-    Input::Opened(descriptor)
 }
 
 // The input whose name stands at place i of the arguments.
-fn open_argument(program: &[u8], i: usize) -> Input {
-    let mut name = io::buffer();
-    let length = os::arg(i, &mut name);
-    match source_of(i, &name[..length]) {
-        Source::Standard => Input::Opened(STDIN_FILENO),
+fn open_argument(program: Program, i: usize) -> Input {
+    let mut name = [0u8; MOST];
+    let n = name_at(program, i, &mut name);
+    match source_of(i, &name[..n]) {
+        Source::Standard => Input::Opened(program.standard_input()),
         Source::Unnamed => {
             complain(program, b"the input's name is empty", b"");
             Input::Nothing
         }
-        Source::File => open_file(program, &name[..length]),
+        Source::File => open_file(program, &name[..n]),
     }
 }
 
@@ -338,27 +428,20 @@ fn next_of(seen: Seen) -> Next
     if seen.version {
         return Next::Version;
     }
-    if seen.two & (seen.second == 0) {
-        return Next::Missing;
-    }
     Next::Open(seen.name)
 }
 
 // Does it, and answers what is to be read.
-fn input_for(program: &[u8], usage: &[u8], next: Next) -> Input {
+fn input_for(program: Program, usage: &[u8], next: Next) -> Input {
     match next {
         Next::Stop => Input::Nothing,
         Next::Usage => {
-            io::write_all(STDOUT_FILENO, usage);
+            let _ = program.write(usage);
             Input::Nothing
         }
         Next::Version => {
-            io::write_all(STDOUT_FILENO, program);
-            io::write_all(STDOUT_FILENO, b" 4.1.0\n");
-            Input::Nothing
-        }
-        Next::Missing => {
-            complain(program, b"two recordings have to be named", b"");
+            let _ = program.write(program.name());
+            let _ = program.write(b" 4.0.0\n");
             Input::Nothing
         }
         Next::Open(i) => open_argument(program, i),
@@ -367,8 +450,8 @@ fn input_for(program: &[u8], usage: &[u8], next: Next) -> Input {
 
 // Looks at the arguments and opens what the program is to read: the file that they name, or standard input where they
 // name none or `-`. Where help is asked for, `usage` is printed, and where the version is, that. `numbers`: the program has the option `--numbers`.
-pub fn look(program: &[u8], usage: &[u8], numbers: bool) -> Called {
-    let seen = all_arguments(program, numbers, false);
+pub fn look(program: Program, usage: &[u8], numbers: bool) -> Called {
+    let seen = all_arguments(program, numbers);
     let input = input_for(program, usage, next_of(seen));
     Called {
         input,
@@ -381,11 +464,28 @@ pub fn look(program: &[u8], usage: &[u8], numbers: bool) -> Called {
     }
 }
 
-// The second input, once the first is open. Standard input is read once, so that it is not both.
-fn second_input(program: &[u8], first: i32, i: usize) -> Input {
+// Whether a program that would open its inputs has no second.
+fn lacks_second(both: SeenTwo) -> bool
+    ensures { result ≡ lacks_second both }
+{
+    let seen = both.seen;
+    !seen.wrong & !seen.help & !seen.version & (both.second == 0)
+}
+
+// The first of two inputs, where both are named.
+fn first_input(program: Program, usage: &[u8], both: SeenTwo) -> Input {
+    if lacks_second(both) {
+        complain(program, b"two recordings have to be named", b"");
+        return Input::Nothing;
+    }
+    input_for(program, usage, next_of(both.seen))
+}
+
+// The second, once the first is open. Standard input is read once, so that it is not both.
+fn second_input(program: Program, first: &Reader, i: usize) -> Input {
     match open_argument(program, i) {
         Input::Opened(second) => {
-            if first == second {
+            if first.descriptor() == second.descriptor() {
                 complain(program, b"standard input cannot be both recordings", b"");
                 return Input::Nothing;
             }
@@ -395,19 +495,19 @@ fn second_input(program: &[u8], first: i32, i: usize) -> Input {
     }
 }
 
-// The same for a program that takes two inputs, and has the option `--numbers`.
-pub fn look_two(program: &[u8], usage: &[u8]) -> CalledTwo {
-    let seen = all_arguments(program, true, true);
-    let first = input_for(program, usage, next_of(seen));
-    let second = match first {
-        Input::Opened(descriptor) => second_input(program, descriptor, seen.second),
+// The same as `look` for a program that takes two inputs, and has the option `--numbers`.
+pub fn look_two(program: Program, usage: &[u8]) -> CalledTwo {
+    let both = all_arguments_two(program);
+    let first = first_input(program, usage, both);
+    let second = match &first {
+        Input::Opened(reader) => second_input(program, reader, both.second),
         Input::Nothing => Input::Nothing,
     };
     CalledTwo {
         first,
         second,
-        numbers: seen.numbers,
-        first_name: seen.name,
-        second_name: seen.second,
+        numbers: both.seen.numbers,
+        first_name: both.seen.name,
+        second_name: both.second,
     }
 }

@@ -1,5 +1,5 @@
 -- What a program keeps of the input in its buffer. docs/MANUAL.md, "Programs".
-use Rattle.std.specs.Prelude.{ℕ, cond, List, [], ◌++◌, leb, length, drop}
+use Rattle.std.specs.Prelude.{◌≡◌, ◌≤◌, ℕ, cond, List, [], ◌++◌, leb, length, take, drop}
 use Rattle.std.proofs.Math.Seq.{slice}
 
 -- The bytes that wait from a place up to an end: none where the end is not behind the place, or is past the input.
@@ -9,3 +9,8 @@ waiting input at end = cond (leb end (length input)) (slice at end input) []
 -- The input with these at its front; what stands behind them is as it was.
 unfoldable pub moved_down : List ℕ → ℕ → ℕ → List ℕ
 moved_down input at end = waiting input at end ++ drop (length (waiting input at end)) input
+
+-- So many of the bytes are there, and are as many as said. The second part follows from the first, and spares a caller's
+-- `&bytes[..n]` a proof file.
+abbrev pub IsPrefixLen : ℕ → List ℕ → Type 0
+IsPrefixLen n bytes = (n ≤ length bytes) × (n ≡ length (take n bytes))

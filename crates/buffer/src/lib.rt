@@ -2,10 +2,10 @@
 #![tactic(auto)]
 
 ghost use Rattle.std.specs.Prelude.{◌+◌, ◌≤◌, min, ◌≡◌, length};
-ghost use Rattle.buffer.specs.Buffer.{waiting, moved_down};
-ghost use Rattle.io.specs.Counts.{IsPrefixLen};
+ghost use Rattle.buffer.specs.Buffer.{waiting, moved_down, IsPrefixLen};
 
-use libc::{STDERR_FILENO, STDOUT_FILENO};
+use program::Program;
+use std::io::Error;
 
 // The bytes that a program's output has room for.
 pub const ROOM: usize = 65_536;
@@ -34,15 +34,23 @@ pub fn forward(at: usize, n: usize) -> usize
     at + n
 }
 
+// What the system has against standard output: `replay: standard output: No space left on device`.
+pub fn say_unwritten(program: Program, error: Error) {
+    program.say(program.name());
+    program.say(b": standard output");
+    program.say_error(error);
+}
+
 // The first bytes go out to standard output. Answers whether they did; a message says so where not.
-pub fn flush(program: &[u8], bytes: &[u8], waiting: usize) -> bool {
+pub fn flush(program: Program, bytes: &[u8], waiting: usize) -> bool {
     let n = within(waiting, bytes);
-    let is_written = io::write_all(STDOUT_FILENO, &bytes[..n]);
-    if !is_written {
-        io::write_all(STDERR_FILENO, program);
-        os::fail(b": standard output");
+    match program.write(&bytes[..n]) {
+        Ok(()) => true,
+        Err(error) => {
+            say_unwritten(program, error);
+            false
+        }
     }
-    is_written
 }
 
 // Moves the bytes from `at` to `end` to the front, and answers how many they are.

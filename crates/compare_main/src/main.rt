@@ -7,13 +7,14 @@ ghost use Rattle.recording.specs.Recording.{operation_at};
 ghost use Rattle.compare_main.specs.Pair.{met_at, ended_at, pair_at, moved_pair, Moved, more_of, told_of};
 ghost use Rattle.compare.specs.Walk.{SameBytes};
 
-use arguments::{Input, look_two};
+use arguments::{CalledTwo, Input, look_two, name_at};
 use bits::pick;
 use buffer::{ROOM, flush, within};
 use compare::{FIRST, SECOND, Walk, bad_number, differing_of, parted, same_bytes};
 use comparison::{Told, put_told};
 use input::{AT_ONCE, FAILED, Window, found_at, passage_at, reading_at, refilled, turn};
 use message::say_damage;
+use program::{Program, Reader};
 use recording::{Numbers, Reading};
 use std::num::{wrapping_add_u64, wrapping_sub_u64};
 
@@ -164,38 +165,49 @@ fn with_second(second: Window, mut p: Pair) -> Pair {
     if second.going { p } else { ended_pair(p) }
 }
 
-// The two inputs' descriptors, and the places of their names among the arguments.
-#[derive(Clone, Copy)]
-struct Inputs {
-    first: i32,
-    second: i32,
-    first_name: usize,
-    second_name: usize,
+// An input, and the place of its name among the arguments.
+#[derive(Drop)]
+struct Named {
+    reader: Reader,
+    place: usize,
 }
 
 // Reads once.
-fn read_once(descriptor: i32, place: usize, bytes: &mut [u8; ROOM], w: Window) -> Window {
-    let mut name = io::buffer();
-    let length = os::arg(place, &mut name);
-    refilled(b"compare", descriptor, &name[..length], bytes, w)
+fn read_once(program: Program, input: &mut Named, bytes: &mut [u8; ROOM], w: Window) -> Window {
+    let mut name = [0u8; 4096];
+    let n = name_at(program, input.place, &mut name);
+    refilled(program, &mut input.reader, &name[..n], bytes, w)
 }
 
 // Compares pairs, or reads once where too little is there to be sure of a whole operation.
-fn walk_turn(inputs: Inputs, a: &mut [u8; ROOM], b: &mut [u8; ROOM], p: Pair) -> Pair {
+fn walk_turn(
+    program: Program,
+    one: &mut Named,
+    two: &mut Named,
+    a: &mut [u8; ROOM],
+    b: &mut [u8; ROOM],
+    p: Pair,
+) -> Pair {
     let first = p.first;
     let second = p.second;
     if first.needs_more() {
-        return with_first(read_once(inputs.first, inputs.first_name, a, first), p);
+        return with_first(read_once(program, one, a, first), p);
     }
     if second.needs_more() {
-        return with_second(read_once(inputs.second, inputs.second_name, b, second), p);
+        return with_second(read_once(program, two, b, second), p);
     }
     next_pairs(a, b, p)
 }
 
 // A proved loop has to end, and nothing says that an input does. So the loop counts its turns down, from a number that no run
 // uses up.
-fn walk_all(inputs: Inputs, a: &mut [u8; ROOM], b: &mut [u8; ROOM]) -> Pair {
+fn walk_all(
+    program: Program,
+    one: &mut Named,
+    two: &mut Named,
+    a: &mut [u8; ROOM],
+    b: &mut [u8; ROOM],
+) -> Pair {
     let mut p = Pair {
         first: Window::begin(),
         second: Window::begin(),
@@ -206,7 +218,7 @@ fn walk_all(inputs: Inputs, a: &mut [u8; ROOM], b: &mut [u8; ROOM]) -> Pair {
     let mut going = true;
     let mut turns = u64::MAX;
     while turns > 0 && going {
-        p = walk_turn(inputs, a, b, p);
+        p = walk_turn(program, one, two, a, b, p);
         let walk = p.walk;
         going = walk.going;
         turns -= 1;
@@ -215,47 +227,61 @@ fn walk_all(inputs: Inputs, a: &mut [u8; ROOM], b: &mut [u8; ROOM]) -> Pair {
 }
 
 // Reads one input on to its end, or to its first bad number.
-fn read_to_end(descriptor: i32, name: &[u8], bytes: &mut [u8; ROOM], begun: Window) -> Window {
+fn read_to_end(
+    program: Program,
+    reader: &mut Reader,
+    name: &[u8],
+    bytes: &mut [u8; ROOM],
+    begun: Window,
+) -> Window {
     let mut w = begun;
     let mut turns = u64::MAX;
     while turns > 0 && w.going {
-        w = turn(b"compare", descriptor, name, bytes, w);
+        w = turn(program, reader, name, bytes, w);
         turns -= 1;
     }
     w
 }
 
-// The same where its name stands at this place of the arguments.
-fn read_on(descriptor: i32, place: usize, bytes: &mut [u8; ROOM], begun: Window) -> Window {
-    let mut name = io::buffer();
-    let length = os::arg(place, &mut name);
-    read_to_end(descriptor, &name[..length], bytes, begun)
+// The same where its name stands at its place of the arguments.
+fn read_on(program: Program, input: &mut Named, bytes: &mut [u8; ROOM], begun: Window) -> Window {
+    let mut name = [0u8; 4096];
+    let n = name_at(program, input.place, &mut name);
+    read_to_end(program, &mut input.reader, &name[..n], bytes, begun)
 }
 
 // The first bytes go out.
-fn send(out: &[u8; ROOM], length: usize) {
-    flush(b"compare", out, length);
+fn send(program: Program, out: &[u8; ROOM], length: usize) {
+    flush(program, out, length);
 }
 
 // What is told goes out.
-fn tell(numbers: bool, t: Told) {
-    let mut out = io::large_buffer();
+fn tell(program: Program, numbers: bool, t: Told) {
+    let mut out = [0u8; ROOM];
     let length = put_told(&mut out, numbers, t);
-    send(&out, length);
+    send(program, &out, length);
 }
 
 // A recording cannot be read on: what is wrong is said, and with `--numbers` the numbers too. What the system could not read was
 // said before.
-fn tell_bad(numbers: bool, which: u64, place: usize, bytes: &[u8; ROOM], w: Window) {
+fn tell_bad(
+    program: Program,
+    numbers: bool,
+    which: u64,
+    place: usize,
+    bytes: &[u8; ROOM],
+    w: Window,
+) {
     if w.number == FAILED {
         return;
     }
-    let mut name = io::buffer();
-    let length = os::arg(place, &mut name);
+    let mut name = [0u8; 4096];
+    let n = name_at(program, place, &mut name);
     if numbers {
         let parting = bad_number(which, w.number, w.place() as usize);
         let none = Numbers::new(0, 0, 0, 0, 0, 0);
         tell(
+            program,
             true,
             Told {
                 parting,
@@ -266,8 +292,8 @@ fn tell_bad(numbers: bool, which: u64, place: usize, bytes: &[u8; ROOM], w: Wind
         );
     }
     say_damage(
-        b"compare",
-        &name[..length],
+        program,
+        &name[..n],
         w.place(),
         wrapping_add_u64(w.operations, 1),
         found_at(bytes, w.end, w.start),
@@ -303,44 +329,47 @@ fn told_of(first: Window, second: Window, p: Pair) -> Told
 
 // Compares the two inputs. Both are read to their ends before anything is told, since a bad number anywhere in either is all that
 // is then told, the first's before the second's.
-fn compare_inputs(inputs: Inputs, numbers: bool) {
-    let mut a = io::large_buffer();
-    let mut b = io::large_buffer();
-    let p = walk_all(inputs, &mut a, &mut b);
-    let one = p.first;
-    let first = read_on(inputs.first, inputs.first_name, &mut a, one);
+fn compare_inputs(program: Program, one: &mut Named, two: &mut Named, numbers: bool) {
+    let mut a = [0u8; ROOM];
+    let mut b = [0u8; ROOM];
+    let p = walk_all(program, one, two, &mut a, &mut b);
+    let first = read_on(program, one, &mut a, p.first);
     if first.number != 0 {
-        tell_bad(numbers, FIRST, inputs.first_name, &a, first);
+        tell_bad(program, numbers, FIRST, one.place, &a, first);
         return;
     }
-    let two = p.second;
-    let second = read_on(inputs.second, inputs.second_name, &mut b, two);
+    let second = read_on(program, two, &mut b, p.second);
     if second.number != 0 {
-        tell_bad(numbers, SECOND, inputs.second_name, &b, second);
+        tell_bad(program, numbers, SECOND, two.place, &b, second);
         return;
     }
-    tell(numbers, told_of(first, second, p));
+    tell(program, numbers, told_of(first, second, p));
 }
 
-fn main() {
+fn main(rt: HostRuntime) {
+    let program = Program::new(rt, b"compare");
     let usage =
         b"usage: compare [--numbers] A B\n\nTells where the recordings A and B part. One of them may be -, standard input.\n\n  --numbers   one line for a script: the nine numbers of struct brb_parting\n  --help, -h  this text\n  --version   the version\n  --          what comes behind it is no option\n\nHow many operations are equal at the front; the first pair that is not, as list shows it, A's and then B's, with\nthe names of what differs; and which recording ends first, with what is left of the other. A recording that\ncannot be read on is said on standard error, with the byte where its bad number starts, counted from 0.\n\nRun as brb compare, the status is 0 where they are equal, 1 where they differ, and 2 where something was wrong.\n";
-    let called = look_two(b"compare", usage);
-    let first = called.first;
-    let second = called.second;
-    let Input::Opened(one) = first else {
+    let CalledTwo {
+        first,
+        second,
+        numbers,
+        first_name,
+        second_name,
+    } = look_two(program, usage);
+    let Input::Opened(first) = first else {
         return;
     };
-    let Input::Opened(two) = second else {
+    let Input::Opened(second) = second else {
         return;
     };
-    compare_inputs(
-        Inputs {
-            first: one,
-            second: two,
-            first_name: called.first_name,
-            second_name: called.second_name,
-        },
-        called.numbers,
-    );
+    let mut one = Named {
+        reader: first,
+        place: first_name,
+    };
+    let mut two = Named {
+        reader: second,
+        place: second_name,
+    };
+    compare_inputs(program, &mut one, &mut two, numbers);
 }

@@ -11,19 +11,22 @@ ghost use Rattle.input.specs.Input.{begun, stopped_at, refilled_at, passed_at, d
 use buffer::{ROOM, forward, move_down, within};
 use message::say_unread;
 use number::{Found, number_at};
+use program::{Program, Reader};
 use recording::{Passage, Reading, operation_at, pass};
+use std::io;
+use std::io::Read;
 use std::num::wrapping_add_u64;
 
 // An operation has at most so many bytes: six numbers of ten. Fewer are looked at only where the input has ended.
 const LONGEST: usize = 60;
 
-// Reads once, behind the first bytes, and answers how many came, 0 at the input's end and below 0 where it cannot be read.
-// Those in front stay as they are.
-pub fn read_behind(input: i32, bytes: &mut [u8], left: usize) -> isize
+// Reads once, behind the first bytes, and answers how many came, 0 at the input's end, or why it cannot be read. Those in front
+// stay as they are.
+pub fn read_behind(input: &mut Reader, bytes: &mut [u8], left: usize) -> io::Result<usize>
     ensures { take (min left (length bytes.old)) bytes.new ≡ take left bytes.old }
 {
     let start = within(left, bytes);
-    libc::read(input, &mut bytes[start..])
+    input.read(&mut bytes[start..])
 }
 
 // The operation at a place of the bytes up to `end`.
@@ -166,19 +169,20 @@ fn after_read(w: Window, left: usize, came: usize, ended: bool) -> Window
 
 // Makes room at the front and reads once. Where the input cannot be read it says so, and stops with the number FAILED.
 pub fn refilled(
-    program: &[u8],
-    descriptor: i32,
+    program: Program,
+    input: &mut Reader,
     name: &[u8],
     bytes: &mut [u8; ROOM],
     w: Window,
 ) -> Window {
     let left = move_down(bytes, w.start, w.end);
-    let got = read_behind(descriptor, bytes, left);
-    if got < 0 {
-        say_unread(program, name);
-        return w.damaged(FAILED, w.start);
+    match read_behind(input, bytes, left) {
+        Ok(came) => after_read(w, left, came, came == 0),
+        Err(error) => {
+            say_unread(program, name, error);
+            w.damaged(FAILED, w.start)
+        }
     }
-    after_read(w, left, io::count(got, bytes), got == 0)
 }
 
 // No refusal has this number: the system could not read the input.
@@ -207,8 +211,8 @@ fn passed_over(bytes: &[u8; ROOM], w: Window) -> Window
 
 // Passes over operations, or reads once where too little is there.
 pub fn turn(
-    program: &[u8],
-    descriptor: i32,
+    program: Program,
+    input: &mut Reader,
     name: &[u8],
     bytes: &mut [u8; ROOM],
     w: Window,
@@ -217,7 +221,7 @@ pub fn turn(
     ensures bytes_unchanged { needs_more w ≡ false → bytes.new ≡ bytes.old }
 {
     if w.needs_more() {
-        return refilled(program, descriptor, name, bytes, w);
+        return refilled(program, input, name, bytes, w);
     }
     if w.left() == 0 {
         return w.stopped();

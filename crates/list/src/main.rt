@@ -8,10 +8,11 @@ ghost use Rattle.recording.specs.Recording.{operation_at};
 ghost use Rattle.readable.specs.Readable.{line_of};
 ghost use Rattle.list.specs.List.{stopped_at, emptied_at, refilled_at, listed_at, Listed, Turned, TurnedAt, needs_more};
 
-use arguments::{Input, look};
+use arguments::{Input, look, name_at};
 use buffer::{ROOM, flush, forward, move_down};
 use input::{found_at, read_behind, reading_at};
 use message::{say_damage, say_unread};
+use program::{Program, Reader};
 use readable::{LONGEST_LINE, put_line};
 use recording::{Numbers, Reading};
 use std::num::wrapping_add_u64;
@@ -67,23 +68,37 @@ fn after_read(p: Place, left: usize, came: usize, ended: bool) -> Place
 }
 
 // Makes room at the front and reads once.
-fn refilled(input: i32, name: &[u8], bytes: &mut [u8; ROOM], p: Place) -> Place {
+fn refilled(
+    program: Program,
+    input: &mut Reader,
+    name: &[u8],
+    bytes: &mut [u8; ROOM],
+    p: Place,
+) -> Place {
     let left = move_down(bytes, p.start, p.end);
-    let got = read_behind(input, bytes, left);
-    if got < 0 {
-        say_unread(b"list", name);
-        return stopped(p);
+    match read_behind(input, bytes, left) {
+        Ok(came) => after_read(p, left, came, came == 0),
+        Err(error) => {
+            say_unread(program, name, error);
+            stopped(p)
+        }
     }
-    after_read(p, left, io::count(got, bytes), got == 0)
 }
 
 // The lines before go out first, then the message.
-fn refused(name: &[u8], bytes: &[u8; ROOM], out: &[u8; ROOM], p: Place, at: usize) -> Place
+fn refused(
+    program: Program,
+    name: &[u8],
+    bytes: &[u8; ROOM],
+    out: &[u8; ROOM],
+    p: Place,
+    at: usize,
+) -> Place
     ensures { result ≡ emptied_at p }
 {
-    flush(b"list", out, p.waiting);
+    flush(program, out, p.waiting);
     say_damage(
-        b"list",
+        program,
         name,
         wrapping_add_u64(p.before, at as u64),
         wrapping_add_u64(p.operations, 1),
@@ -117,12 +132,19 @@ fn with_line(
 }
 
 // The same behind what waits, which goes out before, where a long line might have no room.
-fn listed(out: &mut [u8; ROOM], numbers: bool, p: Place, x: Numbers, next: usize) -> Place
+fn listed(
+    program: Program,
+    out: &mut [u8; ROOM],
+    numbers: bool,
+    p: Place,
+    x: Numbers,
+    next: usize,
+) -> Place
     ensures { Listed out.old numbers p x next result out.new }
 {
     let mut at = p.waiting;
     if ROOM - LONGEST_LINE < at {
-        if !flush(b"list", out, at) {
+        if !flush(program, out, at) {
             return emptied(p);
         }
         at = 0;
@@ -132,6 +154,7 @@ fn listed(out: &mut [u8; ROOM], numbers: bool, p: Place, x: Numbers, next: usize
 
 // Lists the operation that stands next.
 fn operation_listed(
+    program: Program,
     name: &[u8],
     bytes: &[u8; ROOM],
     out: &mut [u8; ROOM],
@@ -141,8 +164,8 @@ fn operation_listed(
     ensures { Turned out.old numbers p (operation_at (take p.end bytes.now) p.start) result out.new }
 {
     match reading_at(bytes, p.end, p.start) {
-        Reading::Operation(x, next) => listed(out, numbers, p, x, next),
-        Reading::Refused(_, at) => refused(name, bytes, out, p, at),
+        Reading::Operation(x, next) => listed(program, out, numbers, p, x, next),
+        Reading::Refused(_, at) => refused(program, name, bytes, out, p, at),
     }
 }
 
@@ -155,7 +178,8 @@ fn left_of(p: Place) -> usize
 
 // Lists an operation, or reads once where too little is there to be sure of a whole one.
 fn turn(
-    input: i32,
+    program: Program,
+    input: &mut Reader,
     name: &[u8],
     numbers: bool,
     bytes: &mut [u8; ROOM],
@@ -167,19 +191,19 @@ fn turn(
 {
     let left = left_of(p);
     if (left < LONGEST) & !p.ended {
-        return refilled(input, name, bytes, p);
+        return refilled(program, input, name, bytes, p);
     }
     if left == 0 {
         return stopped(p);
     }
-    operation_listed(name, bytes, out, numbers, p)
+    operation_listed(program, name, bytes, out, numbers, p)
 }
 
 // A proved loop has to end, and nothing says that the input does. So the loop counts its turns down, from a number that
 // no run uses up.
-fn list_all(input: i32, name: &[u8], numbers: bool) {
-    let mut bytes = io::large_buffer();
-    let mut out = io::large_buffer();
+fn list_all(program: Program, input: &mut Reader, name: &[u8], numbers: bool) {
+    let mut bytes = [0u8; ROOM];
+    let mut out = [0u8; ROOM];
     let mut place = Place {
         start: 0,
         end: 0,
@@ -191,33 +215,32 @@ fn list_all(input: i32, name: &[u8], numbers: bool) {
     };
     let mut turns = u64::MAX;
     while turns > 0 && place.going {
-        place = turn(input, name, numbers, &mut bytes, &mut out, place);
+        place = turn(program, input, name, numbers, &mut bytes, &mut out, place);
         turns -= 1;
     }
-    finish(&out, place);
+    finish(program, &out, place);
 }
 
 // What waits goes out.
-fn finish(out: &[u8; ROOM], p: Place) {
-    flush(b"list", out, p.waiting);
+fn finish(program: Program, out: &[u8; ROOM], p: Place) {
+    flush(program, out, p.waiting);
 }
 
 // The input's name stands at this place of the arguments.
-fn list_named(input: i32, place: usize, numbers: bool) {
-    let mut name = io::buffer();
-    let length = os::arg(place, &mut name);
-    list_all(input, &name[..length], numbers);
+fn list_named(program: Program, input: &mut Reader, place: usize, numbers: bool) {
+    let mut name = [0u8; 4096];
+    let n = name_at(program, place, &mut name);
+    list_all(program, input, &name[..n], numbers);
 }
 
-fn main() {
+fn main(rt: HostRuntime) {
+    let program = Program::new(rt, b"list");
     let usage =
         b"usage: list [--numbers] [FILE]\n\nWrites one line for each operation of the recording FILE, or of standard input where FILE is - or missing.\n\n  --numbers   each operation as its own numbers in decimal, which pack reads back\n  --help, -h  this text\n  --version   the version\n  --          what comes behind it is no option\n\nA recording that cannot be read on is said on standard error, with the byte where its bad number starts, counted\nfrom 0, after the lines of the operations before it.\n";
-    let called = look(b"list", usage, true);
-    let input = called.input;
-    match input {
-        Input::Opened(descriptor) => {
-            list_named(descriptor, called.name, called.numbers);
-            libc::close(descriptor);
+    let called = look(program, usage, true);
+    match called.input {
+        Input::Opened(mut input) => {
+            list_named(program, &mut input, called.name, called.numbers);
         }
         Input::Nothing => {}
     }

@@ -2,13 +2,10 @@
 // that is lent is changed.
 #![tactic(auto)]
 
-use libc::STDERR_FILENO;
 use number::Found;
 use operation::LAST_CODE;
-
-fn say(text: &[u8]) {
-    io::write_all(STDERR_FILENO, text);
-}
+use program::Program;
+use std::io::Error;
 
 // Whether a byte is a control character, which a terminal would obey.
 fn is_control(byte: u8) -> bool {
@@ -16,13 +13,13 @@ fn is_control(byte: u8) -> bool {
 }
 
 // A text that somebody else wrote: a question mark stands for each control character.
-pub fn say_shown(text: &[u8]) {
+pub fn say_shown(program: Program, text: &[u8]) {
     let mut i = 0;
     while i < text.len() {
         if is_control(text[i]) {
-            say(b"?");
+            program.say(b"?");
         } else {
-            say(&text[i..i + 1]);
+            program.say(&text[i..i + 1]);
         }
         i += 1;
     }
@@ -37,20 +34,20 @@ fn is_standard(name: &[u8]) -> bool {
 }
 
 // `PROGRAM: FILE`, of the input that has this name among the arguments.
-pub fn say_input(program: &[u8], name: &[u8]) {
-    say(program);
-    say(b": ");
+pub fn say_input(program: Program, name: &[u8]) {
+    program.say(program.name());
+    program.say(b": ");
     if is_standard(name) {
-        say(b"standard input");
+        program.say(b"standard input");
     } else {
-        say_shown(name);
+        say_shown(program, name);
     }
 }
 
 // What the system has against an input, said first thing after it refused: `replay: FILE: Input/output error`.
-pub fn say_unread(program: &[u8], name: &[u8]) {
+pub fn say_unread(program: Program, name: &[u8], error: Error) {
     say_input(program, name);
-    os::fail(b"");
+    program.say_error(error);
 }
 
 // A byte that a text can begin with: a printed character, a tab or a line's end.
@@ -59,32 +56,32 @@ fn is_text(byte: u64) -> bool {
 }
 
 // What is wrong with a number of a recording: one that can be read is an unknown code.
-fn say_found(byte: u64, found: Found) {
+fn say_found(program: Program, byte: u64, found: Found) {
     match found {
         Found::Value(code, _) => {
-            say(b"a code is at most ");
-            io::print_decimal(STDERR_FILENO, LAST_CODE);
-            say(b", and ");
-            io::print_decimal(STDERR_FILENO, code);
-            say(b" stands here");
+            program.say(b"a code is at most ");
+            program.say_number(LAST_CODE);
+            program.say(b", and ");
+            program.say_number(code);
+            program.say(b" stands here");
             if (byte == 0) & is_text(code) {
-                say(b"; the input looks like text, and pack makes a recording of text");
+                program.say(b"; the input looks like text, and pack makes a recording of text");
             }
         }
-        Found::Malformed => say(b"a malformed number"),
-        Found::Ended => say(b"the input ends inside an operation"),
+        Found::Malformed => program.say(b"a malformed number"),
+        Found::Ended => program.say(b"the input ends inside an operation"),
     }
 }
 
 // Where a recording is damaged, and how: `replay: FILE: byte 50 (the first is 0), operation 12: a malformed number`, where
 // operations are counted from 1.
-pub fn say_damage(program: &[u8], name: &[u8], byte: u64, operation: u64, found: Found) {
+pub fn say_damage(program: Program, name: &[u8], byte: u64, operation: u64, found: Found) {
     say_input(program, name);
-    say(b": byte ");
-    io::print_decimal(STDERR_FILENO, byte);
-    say(b" (the first is 0), operation ");
-    io::print_decimal(STDERR_FILENO, operation);
-    say(b": ");
-    say_found(byte, found);
-    say(b"\n");
+    program.say(b": byte ");
+    program.say_number(byte);
+    program.say(b" (the first is 0), operation ");
+    program.say_number(operation);
+    program.say(b": ");
+    say_found(program, byte, found);
+    program.say(b"\n");
 }

@@ -9,12 +9,15 @@ ghost use Rattle.recording.specs.Recording.{operation_bytes};
 ghost use Rattle.notation.specs.Reading.{Known};
 
 use answer::Answer;
-use arguments::{Input, look};
+use arguments::{Input, look, name_at};
 use buffer::{ROOM, flush, forward, move_down, within};
 use complaint::{Spot, has_lone_return, report};
 use message::say_unread;
 use notation::{Begun, Problem, Step, ended, line_end, none_begun, read_on, whole_words};
+use program::{Program, Reader};
 use recording::{Numbers, write_operation};
+use std::io;
+use std::io::Read;
 use std::num::{wrapping_add_u64, wrapping_sub_u64};
 
 // An operation has at most so many bytes: six numbers of ten.
@@ -69,10 +72,10 @@ fn byte_at(bytes: &[u8], at: usize) -> u8 {
     if at < bytes.len() { bytes[at] } else { b'\n' }
 }
 
-// Reads once, behind the first bytes, and answers how many came, 0 at the input's end and below 0 where it cannot be read.
-fn read_behind(input: i32, bytes: &mut [u8], left: usize) -> isize {
+// Reads once, behind the first bytes, and answers how many came, 0 at the input's end, or why it cannot be read.
+fn read_behind(input: &mut Reader, bytes: &mut [u8], left: usize) -> io::Result<usize> {
     let start = within(left, bytes);
-    libc::read(input, &mut bytes[start..])
+    input.read(&mut bytes[start..])
 }
 
 // How many of the bytes up to `end` hold whole words.
@@ -116,7 +119,13 @@ fn shortened(bytes: &mut [u8; ROOM], mut w: Work) -> Work {
 }
 
 // The rest of the buffer at its front, and behind it what is read at once.
-fn refilled(input: i32, name: &[u8], bytes: &mut [u8; ROOM], mut w: Work) -> Work {
+fn refilled(
+    program: Program,
+    input: &mut Reader,
+    name: &[u8],
+    bytes: &mut [u8; ROOM],
+    mut w: Work,
+) -> Work {
     w.before = wrapping_add_u64(w.before, w.start as u64);
     if 0 < w.start {
         w.left_out = 0;
@@ -126,15 +135,16 @@ fn refilled(input: i32, name: &[u8], bytes: &mut [u8; ROOM], mut w: Work) -> Wor
     if left == ROOM {
         return shortened(bytes, w);
     }
-    let got = read_behind(input, bytes, left);
-    if got < 0 {
-        say_unread(b"pack", name);
-        return stopped(w);
-    }
-    let came = io::count(got, bytes);
+    let came = match read_behind(input, bytes, left) {
+        Ok(came) => came,
+        Err(error) => {
+            say_unread(program, name, error);
+            return stopped(w);
+        }
+    };
     w.end = forward(left, came);
     w.whole = whole_of(bytes, w.end);
-    w.over = got == 0;
+    w.over = came == 0;
     w
 }
 
@@ -187,7 +197,7 @@ fn put(out: &mut [u8; ROOM], waiting: usize, x: Numbers) -> usize
 }
 
 // The same, where what waits goes out first if an operation might have no room.
-fn put_operation(out: &mut [u8; ROOM], mut w: Work, x: Numbers) -> Work
+fn put_operation(program: Program, out: &mut [u8; ROOM], mut w: Work, x: Numbers) -> Work
     requires { x.code ≤ last_code }
 {
     w.operations = wrapping_add_u64(w.operations, 1);
@@ -195,7 +205,7 @@ fn put_operation(out: &mut [u8; ROOM], mut w: Work, x: Numbers) -> Work
         w.waiting = put(out, w.waiting, x);
         return w;
     }
-    if !flush(b"pack", out, w.waiting) {
+    if !flush(program, out, w.waiting) {
         return emptied(w);
     }
     w.waiting = put(out, 0, x);
@@ -213,7 +223,14 @@ fn place_of(w: Work, at: usize) -> u64 {
 }
 
 // Says what is wrong at a place, and reads no more.
-fn refused(name: &[u8], bytes: &[u8], w: Work, problem: Problem, at: usize) -> Work {
+fn refused(
+    program: Program,
+    name: &[u8],
+    bytes: &[u8],
+    w: Work,
+    problem: Problem,
+    at: usize,
+) -> Work {
     let n = within(w.end, bytes);
     let place = place_of(w, at);
     let spot = Spot {
@@ -222,7 +239,7 @@ fn refused(name: &[u8], bytes: &[u8], w: Work, problem: Problem, at: usize) -> W
         operation: wrapping_add_u64(w.operations, 1),
     };
     let returned = w.returned | has_lone_return(bytes, w.start, at);
-    report(name, spot, &bytes[..n], returned, at, problem);
+    report(program, name, spot, &bytes[..n], returned, at, problem);
     stopped(w)
 }
 
@@ -234,40 +251,59 @@ fn read_within(bytes: &[u8], end: usize, at: usize, begun: Begun) -> Step
 }
 
 // Reads on to the end of the operation, or of what can be read.
-fn operation_read(name: &[u8], bytes: &[u8; ROOM], out: &mut [u8; ROOM], w: Work) -> Work {
+fn operation_read(
+    program: Program,
+    name: &[u8],
+    bytes: &[u8; ROOM],
+    out: &mut [u8; ROOM],
+    w: Work,
+) -> Work {
     match read_within(bytes, limit_of(w), w.start, w.begun) {
         Step::More(begun) => paused(bytes, w, begun),
         Step::Operation(x, at) => {
             let next = passed(byte_at(bytes, at), w, at);
-            put_operation(out, next, x)
+            put_operation(program, out, next, x)
         }
         Step::Nothing(at) => passed(byte_at(bytes, at), w, at),
-        Step::Wrong(problem, at) => refused(name, bytes, w, problem, at),
+        Step::Wrong(problem, at) => refused(program, name, bytes, w, problem, at),
     }
 }
 
 // The text's end ends its last operation.
-fn finished(name: &[u8], bytes: &[u8; ROOM], out: &mut [u8; ROOM], w: Work) -> Work {
+fn finished(
+    program: Program,
+    name: &[u8],
+    bytes: &[u8; ROOM],
+    out: &mut [u8; ROOM],
+    w: Work,
+) -> Work {
     match ended(w.begun, w.end) {
         Step::More(_) => stopped(w),
-        Step::Operation(x, _) => stopped(put_operation(out, w, x)),
+        Step::Operation(x, _) => stopped(put_operation(program, out, w, x)),
         Step::Nothing(_) => stopped(w),
-        Step::Wrong(problem, at) => refused(name, bytes, w, problem, at),
+        Step::Wrong(problem, at) => refused(program, name, bytes, w, problem, at),
     }
 }
 
 // Reads on, passes a comment, or reads more of the text.
-fn turn(input: i32, name: &[u8], bytes: &mut [u8; ROOM], out: &mut [u8; ROOM], w: Work) -> Work {
+fn turn(
+    program: Program,
+    input: &mut Reader,
+    name: &[u8],
+    bytes: &mut [u8; ROOM],
+    out: &mut [u8; ROOM],
+    w: Work,
+) -> Work {
     if limit_of(w) <= w.start {
         if w.over {
-            return finished(name, bytes, out, w);
+            return finished(program, name, bytes, out, w);
         }
-        return refilled(input, name, bytes, w);
+        return refilled(program, input, name, bytes, w);
     }
     if w.comment {
         return commented(bytes, w);
     }
-    operation_read(name, bytes, out, w)
+    operation_read(program, name, bytes, out, w)
 }
 
 // Before the text's first byte.
@@ -292,41 +328,38 @@ fn at_start() -> Work {
 }
 
 // What waits goes out.
-fn finish(out: &[u8; ROOM], w: Work) {
-    flush(b"pack", out, w.waiting);
+fn finish(program: Program, out: &[u8; ROOM], w: Work) {
+    flush(program, out, w.waiting);
 }
 
 // A proved loop has to end, and nothing says that the input does. So the loop counts its turns down, from a number that
 // no run uses up.
-fn pack_all(input: i32, name: &[u8]) {
-    let mut bytes = io::large_buffer();
-    let mut out = io::large_buffer();
+fn pack_all(program: Program, input: &mut Reader, name: &[u8]) {
+    let mut bytes = [0u8; ROOM];
+    let mut out = [0u8; ROOM];
     let mut work = at_start();
     let mut turns = u64::MAX;
     while turns > 0 && work.going {
-        work = turn(input, name, &mut bytes, &mut out, work);
+        work = turn(program, input, name, &mut bytes, &mut out, work);
         turns -= 1;
     }
-    finish(&out, work);
+    finish(program, &out, work);
 }
 
 // The input's name stands at this place of the arguments.
-fn pack_named(input: i32, place: usize) {
-    let mut name = io::buffer();
-    let length = os::arg(place, &mut name);
-    pack_all(input, &name[..length]);
+fn pack_named(program: Program, input: &mut Reader, place: usize) {
+    let mut name = [0u8; 4096];
+    let n = name_at(program, place, &mut name);
+    pack_all(program, input, &name[..n]);
 }
 
-fn main() {
+fn main(rt: HostRuntime) {
+    let program = Program::new(rt, b"pack");
     let usage =
         b"usage: pack [FILE]\n\nWrites a recording to standard output from numbers in FILE, or in standard input where FILE is - or missing.\n\nNumbers are decimal, or hexadecimal after 0x, and white space is between them. A / or a line's end ends an\noperation, # starts a comment. An operation is its code, the cycles passed since the one before, and its fields:\n\n  0 reset      size v1p1\n  1 branch     type mispredicted source target\n  2 exception  type target-level source target\n  3 return     target-level mispredicted source target\n  4 platform   P\n  5 read       register\n  6 write      register value\n  7 BRB IALL\n\nWhat is wrong with the text is said on standard error with its line, column and operation, and the recording ends before that operation.\n";
-    let called = look(b"pack", usage, false);
-    let input = called.input;
-    match input {
-        Input::Opened(descriptor) => {
-            pack_named(descriptor, called.name);
-            libc::close(descriptor);
-        }
+    let called = look(program, usage, false);
+    match called.input {
+        Input::Opened(mut input) => pack_named(program, &mut input, called.name),
         Input::Nothing => {}
     }
 }

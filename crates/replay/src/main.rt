@@ -7,28 +7,36 @@ ghost use Rattle.std.specs.Prelude.{◌≡◌, ◌+◌, ◌≤◌, true, false, 
 ghost use Rattle.stream.specs.Stream.{stopped};
 ghost use Rattle.replay.specs.Replay.{emptied, Brings, Turned};
 
-use arguments::{Input, look};
-use buffer::{move_down, within};
-use libc::STDOUT_FILENO;
+use arguments::{Input, look, name_at};
+use buffer::{ROOM, move_down, say_unwritten, within};
 use line::LONGEST_LINE;
 use message::{say_damage, say_unread};
 use number::number_at;
+use program::{Program, Reader};
+use std::io::Read;
 use std::num::wrapping_add_u64;
 use stream::{LONGEST_OPERATION, Progress, replay_next};
 
 // Brings more of the file behind the bytes that are left. What keeps it from being read is said.
-fn refill(fd: i32, name: &[u8], input: &mut [u8], p: Progress) -> Progress
+fn refill(
+    program: Program,
+    reader: &mut Reader,
+    name: &[u8],
+    input: &mut [u8],
+    p: Progress,
+) -> Progress
     requires { p.end ≤ length input.old }
     ensures brings { Brings input.old p input.new result }
     ensures end_in_bounds { result.end ≤ length input.new }
 {
     let kept = move_down(input, p.at, p.end);
-    let got = libc::read(fd, &mut input[kept..]);
-    if got < 0 {
-        say_unread(b"replay", name);
-        return p.stopped();
-    }
-    let came = io::count(got, &input[kept..]);
+    let came = match reader.read(&mut input[kept..]) {
+        Ok(came) => came,
+        Err(error) => {
+            say_unread(program, name, error);
+            return p.stopped();
+        }
+    };
     let mut next = p;
     next.before = wrapping_add_u64(p.before, p.at as u64);
     next.at = 0;
@@ -38,24 +46,27 @@ fn refill(fd: i32, name: &[u8], input: &mut [u8], p: Progress) -> Progress
 }
 
 // Writes the lines that wait in the output.
-fn flush(output: &[u8], p: Progress) -> Progress
+fn flush(program: Program, output: &[u8], p: Progress) -> Progress
     requires { p.used ≤ length output.now }
     ensures { result ≡ emptied p result.going }
 {
     let used = p.used;
     let mut next = p;
     next.used = 0;
-    if io::write_all(STDOUT_FILENO, &output[..used]) {
-        return next;
+    match program.write(&output[..used]) {
+        Ok(()) => next,
+        Err(error) => {
+            say_unwritten(program, error);
+            next.stopped()
+        }
     }
-    os::fail(b"replay: standard output");
-    next.stopped()
 }
 
 // One turn: room for a line is made, then bytes for an operation are brought, then one operation is replayed. Lines go out
 // before more is read, since a read can wait for long.
 fn turn(
-    fd: i32,
+    program: Program,
+    reader: &mut Reader,
     name: &[u8],
     room: &mut [u64],
     input: &mut [u8],
@@ -67,23 +78,23 @@ fn turn(
     ensures end_in_bounds { (result.end ≤ length input.new) × (result.used ≤ length output.new) }
 {
     if output.len() - LONGEST_LINE < p.used {
-        return flush(&output[..], p);
+        return flush(program, &output[..], p);
     }
     if !p.ended & (p.unread() < LONGEST_OPERATION) {
         if 0 < p.used {
-            return flush(&output[..], p);
+            return flush(program, &output[..], p);
         }
-        return refill(fd, name, input, p);
+        return refill(program, reader, name, input, p);
     }
     replay_next(room, &input[..], output, p)
 }
 
 // Where the recording is damaged, and how.
-fn report(name: &[u8], input: &[u8], p: Progress) {
+fn report(program: Program, name: &[u8], input: &[u8], p: Progress) {
     let end = within(p.end, input);
     let found = number_at(&input[..end], p.at);
     say_damage(
-        b"replay",
+        program,
         name,
         wrapping_add_u64(p.before, p.at as u64),
         p.operations,
@@ -92,41 +103,55 @@ fn report(name: &[u8], input: &[u8], p: Progress) {
 }
 
 // A proved loop has to end, and nothing says that a file does: the turns are counted down from a number that no run uses up.
-fn replay(fd: i32, name: &[u8], room: &mut [u64], input: &mut [u8], output: &mut [u8]) -> Progress
+fn replay(
+    program: Program,
+    reader: &mut Reader,
+    name: &[u8],
+    room: &mut [u64],
+    input: &mut [u8],
+    output: &mut [u8],
+) -> Progress
     requires { 32 ≤ length output.old }
 {
     let mut p = Progress::start();
     let mut turns = u64::MAX;
     while turns > 0 && p.going {
-        p = turn(fd, name, room, input, output, p);
+        p = turn(program, reader, name, room, input, output, p);
         turns -= 1;
     }
-    flush(&output[..], p);
+    flush(program, &output[..], p);
     p
 }
 
 // Replays what is read, and says where it is damaged. The input's name stands at this place of the arguments.
-fn replay_named(fd: i32, place: usize) {
+fn replay_named(program: Program, reader: &mut Reader, place: usize) {
     let mut room = [0u64; 192];
-    let mut bytes = io::large_buffer();
-    let mut lines = io::buffer();
-    let mut name = io::buffer();
-    let length = os::arg(place, &mut name);
-    let p = replay(fd, &name[..length], &mut room, &mut bytes, &mut lines);
+    let mut bytes = [0u8; ROOM];
+    let mut lines = [0u8; 4096];
+    let mut name = [0u8; 4096];
+    let n = name_at(program, place, &mut name);
+    let p = replay(
+        program,
+        reader,
+        &name[..n],
+        &mut room,
+        &mut bytes,
+        &mut lines,
+    );
     if p.damaged {
-        report(&name[..length], &bytes, p);
+        report(program, &name[..n], &bytes, p);
     }
 }
 
-fn main() {
+fn main(rt: HostRuntime) {
+    let program = Program::new(rt, b"replay");
     let called = look(
-        b"replay",
+        program,
         b"usage: replay [FILE]\n\nReplays a recording from FILE, or from standard input where FILE is - or missing, from a fresh state with room\nfor 64 records. Prints a line for each read (16 hexadecimal digits), each access that was not performed\n(undefined, trap2, trap3) and each refusal (refused N), and nothing else. After refused 1 or refused 2, where\nthe recording is damaged, it stops, and says on standard error where.\n",
         false,
     );
-    let input = called.input;
-    let Input::Opened(fd) = input else {
-        return;
-    };
-    replay_named(fd, called.name);
+    match called.input {
+        Input::Opened(mut reader) => replay_named(program, &mut reader, called.name),
+        Input::Nothing => {}
+    }
 }
