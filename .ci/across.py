@@ -50,13 +50,6 @@ def down_from(crate, lines):
     return found
 
 
-def is_left(crate):
-    """Whether the crate is not here, as PORTING-LEFT.md says, while that page stands."""
-    page = os.path.join(ROOT, "PORTING-LEFT.md")
-    here = os.path.exists(os.path.join(ROOT, "crates", crate))
-    return not here and os.path.exists(page) and re.search(rf"\b{crate}\b", open(page, encoding="utf-8").read()) is not None
-
-
 def copied(crate, copy):
     """A repository of the crate and those below it, without what earlier runs left and without edits of their own."""
     lines = listed()
@@ -110,18 +103,12 @@ def refused(path):
 
 def main():
     edits = sorted(glob.glob(os.path.join(ROOT, ".ci", "edits", "*.edit")))
-    count = 0
     for path in edits:
-        crate = fields(path)[0][0]
-        if is_left(crate):
-            print(f"across: {os.path.basename(path)}: left out, as PORTING-LEFT.md names {crate}")
-            continue
         law, error = refused(path)
         print(f"across: {os.path.basename(path)}: {error[:300]}", flush=True)
         if not law:
             sys.exit(f"across: {os.path.basename(path)} is not refused by its law")
-        count += 1
-    print(f"across: {count} refused")
+    print(f"across: {len(edits)} refused")
 
 
 main()

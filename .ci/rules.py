@@ -16,9 +16,6 @@
 2. Every public function of the crates is named on PROMISES, and decides its result and its lent memory by equations, or is
    listed there under "Exceptions".
 3. Every public definition in specs/ has a comment above it.
-
-While PORTING-LEFT.md stands, names of crates that it has and that are not in crates/ are not looked up, and no
-quoted statements and single words.
 """
 import glob
 import os
@@ -47,7 +44,6 @@ def joined(*patterns):
 
 
 CRATES = sorted(d for d in os.listdir(os.path.join(ROOT, "crates")))
-LEFT = set(re.findall(r"\w+", read("PORTING-LEFT.md") or "")) - set(CRATES)
 LOGIC = joined("crates/*/specs/**/*.antt", "crates/*/proofs/**/*.antt", "crates/*/src/*.rt", "include/brb.h")
 WORDS = set(re.findall(r"[^\W\d][\w-]*", LOGIC))
 TESTS = joined("tests/**/*.rs", "rust/**/*.rs")
@@ -117,8 +113,6 @@ def looked_up(bad):
         for number, line in enumerate((read(page) or "").splitlines(), 1):
             for name in re.findall(r"`([^`]+)`", line):
                 if page in OTHER_PAGES and not of_a_crate(name):
-                    continue
-                if LEFT and (re.fullmatch(r"[\w-]+|.* .*", name) or re.split(r"\W", name.removeprefix("crates/"))[0] in LEFT):
                     continue
                 checked += 1
                 why = missing(name)

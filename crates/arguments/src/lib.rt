@@ -11,7 +11,7 @@ use program::{Program, Reader};
 use std::env::FillError;
 use std::io::{Error, Read};
 
-// An argument has fewer bytes than this.
+// An argument has at most so many bytes.
 const MOST: usize = 4096;
 
 const TOO_LONG: &[u8] = b"an argument is too long";

@@ -1,6 +1,6 @@
 // The bank view (document 01, "Access outcomes", last paragraph; document 02, Seven; docs/MANUAL.md, "The bank
 // view"). It borrows the room beside three numbers. What it shows is decided by `record_from`, on a plain slice; the functions that take,
-// make or hold a view are thin, since their proofs are by hand.
+// make or hold a view are thin.
 #![tactic(auto)]
 
 ghost use Rattle.std.specs.Prelude.{◌≡◌, cond, eqb, ◌*◌, ◌%◌};

@@ -22,8 +22,7 @@ fn capped(count: u64, cycles: u64) -> u64
     count + cycles
 }
 
-// What one operation makes of the running count. The functions below take a running count whole and name no part of it,
-// so that their proofs, which are by hand, hold whatever its parts are.
+// What one operation makes of the running count. The functions below take a running count whole and name no part of it.
 fn stepped(r: Running, occasion: bool, cycles: u64) -> Running
     ensures { result ≡ ran r occasion cycles }
 {
