@@ -10,7 +10,7 @@ waiting input at end = cond (leb end (length input)) (slice at end input) []
 unfoldable pub moved_down : List ℕ → ℕ → ℕ → List ℕ
 moved_down input at end = waiting input at end ++ drop (length (waiting input at end)) input
 
--- So many of the bytes are there, and are as many as said. The second part follows from the first, and spares a caller's
--- `&bytes[..n]` a proof file.
+-- So many bytes are there: n is no place past their end, and the first n of them are n bytes. (Either part gives the other; a caller
+-- that takes the first n asks for the one, and for how many they are then for the other.)
 abbrev pub IsPrefixLen : ℕ → List ℕ → Type 0
 IsPrefixLen n bytes = (n ≤ length bytes) × (n ≡ length (take n bytes))
