@@ -20,6 +20,12 @@ own_bytes : (x : Numbers) (count : ℕ) → count ≡ field_count x.code
 unfolding operation_bytes
 own_bytes x count e = rw (e, add-two)
 
+-- What was counted of the first numbers is the length of the operation's bytes.
+counted : (x : Numbers) (count size : ℕ) → count ≡ field_count x.code
+    → size ≡ length (bytes_of_all (take (count + 2) (x.code ∷ x.cycles ∷ x.a ∷ x.b ∷ x.c ∷ x.d ∷ [])))
+    → size ≡ length (operation_bytes x)
+counted x count size e h = h ∙ ap length (own_bytes x count e)
+
 -- The answers of an operation whose code is known, by the room.
 module _ (x : Numbers) (at : ℕ) (out : List ℕ) (known : x.code ≤ last_code) where
   no_place : length out < at + length (operation_bytes x) → (Refused 6 ≡ writing_of x at out) × (out ≡ written_operation x at out)
@@ -42,45 +48,38 @@ returns-then-x-gt-LAST_CODE-clause-value c =
 
 pub returns-then-out-size-clause-value : goal.returns-then-out-size-clause-value
 returns-then-out-size-clause-value c =
-    let counted : c.numbers_length-size.result ≡ length (operation_bytes c.args.x) = let n = c.field_count in
-    c.numbers_length-size.ensures.0 ∙ ap length (own_bytes c.args.x n.result n.ensures.0) in
     let a = c.args in
+    let size = counted a.x c.field_count.result c.numbers_length-size.result c.field_count.ensures.0 c.numbers_length-size.ensures.0 in
     (no_place a.x a.at a.out.now (omega arith) (omega arith)).0
 
 pub returns-then-out-size-clause-out_after : goal.returns-then-out-size-clause-out_after
 returns-then-out-size-clause-out_after c =
-    let counted : c.numbers_length-size.result ≡ length (operation_bytes c.args.x) = let n = c.field_count in
-    c.numbers_length-size.ensures.0 ∙ ap length (own_bytes c.args.x n.result n.ensures.0) in
     let a = c.args in
+    let size = counted a.x c.field_count.result c.numbers_length-size.result c.field_count.ensures.0 c.numbers_length-size.ensures.0 in
     (no_place a.x a.at a.out.now (omega arith) (omega arith)).1
 
 pub returns-then-out-size-2-clause-value : goal.returns-then-out-size-2-clause-value
 returns-then-out-size-2-clause-value c =
-    let counted : c.numbers_length-size.result ≡ length (operation_bytes c.args.x) = let n = c.field_count in
-    c.numbers_length-size.ensures.0 ∙ ap length (own_bytes c.args.x n.result n.ensures.0) in
     let a = c.args in
+    let size = counted a.x c.field_count.result c.numbers_length-size.result c.field_count.ensures.0 c.numbers_length-size.ensures.0 in
     (no_place a.x a.at a.out.now (omega arith) (omega arith)).0
 
 pub returns-then-out-size-2-clause-out_after : goal.returns-then-out-size-2-clause-out_after
 returns-then-out-size-2-clause-out_after c =
-    let counted : c.numbers_length-size.result ≡ length (operation_bytes c.args.x) = let n = c.field_count in
-    c.numbers_length-size.ensures.0 ∙ ap length (own_bytes c.args.x n.result n.ensures.0) in
     let a = c.args in
+    let size = counted a.x c.field_count.result c.numbers_length-size.result c.field_count.ensures.0 c.numbers_length-size.ensures.0 in
     (no_place a.x a.at a.out.now (omega arith) (omega arith)).1
 
 pub returns-clause-value : goal.returns-clause-value
 returns-clause-value c =
-    let counted : c.numbers_length-size.result ≡ length (operation_bytes c.args.x) = let n = c.field_count in
-    c.numbers_length-size.ensures.0 ∙ ap length (own_bytes c.args.x n.result n.ensures.0) in
     let a = c.args in
-    let n = c.field_count in
-    let (count, content) = a_place a.x a.at a.out.now (omega arith) (omega arith) in ap Value counted ∙ count
+    let size = counted a.x c.field_count.result c.numbers_length-size.result c.field_count.ensures.0 c.numbers_length-size.ensures.0 in
+    let (count, content) = a_place a.x a.at a.out.now (omega arith) (omega arith) in ap Value size ∙ count
 
 pub returns-clause-out_after : goal.returns-clause-out_after
 returns-clause-out_after c =
-    let counted : c.numbers_length-size.result ≡ length (operation_bytes c.args.x) = let n = c.field_count in
-    c.numbers_length-size.ensures.0 ∙ ap length (own_bytes c.args.x n.result n.ensures.0) in
     let a = c.args in
+    let size = counted a.x c.field_count.result c.numbers_length-size.result c.field_count.ensures.0 c.numbers_length-size.ensures.0 in
     let n = c.field_count in
     let (count, content) = a_place a.x a.at a.out.now (omega arith) (omega arith) in c.write_numbers.ensures ∙ ap (written a.out.now a.at) (own_bytes a.x n.result n.ensures.0) ∙ content
 
