@@ -6,7 +6,7 @@ ghost use Rattle.room.specs.Room.{records};
 ghost use Rattle.access.specs.Access.{is_record_register, is_register, n_bit, trapped2, trapped3, outcome, read_outcome, read_only, write_outcome, iall_outcome, meant, shown_number, BRBIDR0, register_value, register_written};
 
 use answer::Answer;
-use bits::{pick, pick_bool};
+use bits::pick;
 use room::record_at;
 use state::{CONTROL_MASK, FILTER_MASK, State};
 
@@ -52,14 +52,14 @@ pub fn is_register(r: u64) -> bool
 fn n_bit(s: State, writing: bool, r: u64) -> bool
     ensures { result ≡ n_bit s writing r }
 {
-    let control = pick_bool(
+    let control = pick(
         writing,
         s.p / NBRBCTL_WRITE % 2 == 1,
         s.p / NBRBCTL_READ % 2 == 1,
     );
-    let setting = pick_bool(r == 0, s.p / NBRBIDR % 2 == 1, control);
+    let setting = pick(r == 0, s.p / NBRBIDR % 2 == 1, control);
     let record = is_record_register(r);
-    pick_bool(record | (r == 4), s.p / NBRBDATA % 2 == 1, setting)
+    pick(record | (r == 4), s.p / NBRBDATA % 2 == 1, setting)
 }
 
 fn trapped2(s: State, nbit: bool) -> bool

@@ -2,7 +2,51 @@
 #![tactic(auto)]
 
 ghost use Rattle.std.specs.Prelude.{◌≡◌};
-ghost use Rattle.answer.specs.Answer.{returned, is_done};
+ghost use Rattle.answer.specs.declared.Answer.TheVariants.{Refused};
+ghost use Rattle.answer.specs.Answer.{refusal_number, returned, is_done};
+
+// Why something is refused, in the order of its numbers. (A recording's malformed number; a code that no operation has; no reset yet; a
+// field, an encoding or a bank outside its list; a level that does not let the operation happen; a room that is too short; a state
+// that is not sound; a processor that is halted, or is not; a sum past the largest number.)
+#[derive(Clone, Copy, Debug, PartialEq, Eq)]
+pub enum Refusal {
+    MalformedNumber,
+    UnknownCode,
+    NotReset,
+    OutsideList,
+    WrongLevel,
+    RoomTooShort,
+    NotSound,
+    WrongHalted,
+    SumPasses,
+}
+
+impl Refusal {
+    // Its number in the table.
+    pub fn number(self) -> u64
+        ensures { result ≡ refusal_number self }
+    {
+        match self {
+            Refusal::MalformedNumber => 1,
+            Refusal::UnknownCode => 2,
+            Refusal::NotReset => 3,
+            Refusal::OutsideList => 4,
+            Refusal::WrongLevel => 5,
+            Refusal::RoomTooShort => 6,
+            Refusal::NotSound => 7,
+            Refusal::WrongHalted => 8,
+            Refusal::SumPasses => 9,
+        }
+    }
+}
+
+impl From<Refusal> for Answer {
+    ghost from_gives = { λ refusal answer. answer ≡ Refused (refusal_number refusal) };
+
+    fn from(refusal: Refusal) -> Answer {
+        Answer::Refused(refusal.number())
+    }
+}
 
 // An answer. Steps, accesses, the bank view, and the reader and writer of recordings answer with it.
 #[derive(Clone, Copy)]
@@ -58,19 +102,21 @@ impl Answer {
         }
     }
 
-    pub fn returned(self) -> Returned
-        ensures { result ≡ returned self }
-    {
-        Returned {
-            number: self.number(),
-            value: self.value(),
-        }
-    }
-
     // The answer of an access that was performed.
     pub fn is_done(self) -> bool
         ensures { result ≡ is_done self }
     {
         self.number() == 0
+    }
+}
+
+impl From<Answer> for Returned {
+    ghost from_gives = { λ answer numbers. numbers ≡ returned answer };
+
+    fn from(answer: Answer) -> Returned {
+        Returned {
+            number: answer.number(),
+            value: answer.value(),
+        }
     }
 }

@@ -6,6 +6,8 @@ use Rattle.state.specs.Named.{sizes}
 use Rattle.room.specs.declared.Record.{Record}
 use Rattle.room.specs.Room.{zero_record, records, numbered, needed}
 use Rattle.answer.specs.declared.Answer.{Answer}
+use Rattle.bank.specs.declared.Part.{Part}
+use Rattle.bank.specs.declared.Part.TheVariants.{Inf, Source, Target}
 use Rattle.answer.specs.declared.Answer.TheVariants.{Value, Refused}
 
 -- Its refusals, in their order: 4 for what is no size, no BANK or no register of the 32; 7 for a start that is not below the size; 6
@@ -19,6 +21,12 @@ bank_refusal size start bank m room =
 -- nothing, and must not show another bank.)
 unfoldable pub view_shows : ℕ → ℕ → ℕ → ℕ → List ℕ → Record
 view_shows size start first m room = cond (leb 32 m) zero_record (numbered (m + first) (records size start room))
+
+-- Which of a record's numbers each part is.
+abbrev pub part_of : Part → Record → ℕ
+part_of Inf = λ x. x.inf
+part_of Source = λ x. x.source
+part_of Target = λ x. x.target
 
 -- What is answered for one register of the record at m in a bank: BRBINF, BRBSRC or BRBTGT, or the refusal.
 unfoldable pub bank_shows : (Record → ℕ) → ℕ → ℕ → ℕ → ℕ → List ℕ → Answer

@@ -10,8 +10,7 @@ use lib.Seq.{drop-append-le, drop_at}
 use Rattle.answer.specs.declared.Answer.{Answer}
 use Rattle.recorder.specs.Result.{Result, together}
 use Rattle.recording.specs.declared.Numbers.{Numbers}
-use Rattle.recording.specs.declared.Reading.{Reading}
-use Rattle.recording.specs.declared.Reading.TheVariants.{Operation, Refused}
+use Rattle.recording.specs.Recording.{Reading}
 use Rattle.number.proofs.Laws.{Bytes}
 use Rattle.recording.specs.Recording.{operation_at, operation_bytes}
 use Rattle.recording.specs.Operations.{Holds, ends, reads}
@@ -20,6 +19,7 @@ use Rattle.recording.proofs.Window.{moved_reading, operation_moved, end_moved}
 use Rattle.recording.specs.Run.{then_on, read_from, readings}
 use Rattle.batch.specs.Batch.{step_of_read, in_front, steps}
 use Rattle.recording.proofs.Run.{left, all_left, none_left, one_left}
+use Rattle.std.proofs.Common.{Ok, Err}
 
 -- ---- bytes in front of a run, and bytes behind an operation
 
@@ -34,21 +34,21 @@ read_moved (suc k) bytes d at =
     go : (t : Bool) (r : Reading) → ((next : ℕ) → read_from k bytes (d + next) ≡ map (moved_reading d) (read_from k (drop d bytes) next))
         → cond t [] (then_on (read_from k bytes) (moved_reading d r)) ≡ map (moved_reading d) (cond t [] (then_on (read_from k (drop d bytes)) r))
     go true r rest = refl
-    go false (Operation x next) rest = ap (λ (list : List Reading). Operation x (d + next) ∷ list) (rest next)
-    go false (Refused number place) rest = refl
+    go false (Ok (x, next)) rest = ap (λ (list : List Reading). Ok (x, d + next) ∷ list) (rest next)
+    go false (Err d) rest = refl
 
 -- ... and no step looks at a place.
 steps_moved : (d : ℕ) (list : List Reading) (words room : List ℕ) → steps (map (moved_reading d) list) words room ≡ steps list words room
 unfolding steps
 steps_moved d [] words room = refl
-steps_moved d (Operation x next ∷ list) words room =
-    let one = step_of_read (Operation x next) words room in ap (in_front one.answer) (steps_moved d list one.state one.room)
-steps_moved d (Refused number place ∷ list) words room =
-    let one = step_of_read (Refused number place) words room in ap (in_front one.answer) (steps_moved d list one.state one.room)
+steps_moved d (Ok (x, next) ∷ list) words room =
+    let one = step_of_read (Ok (x, next)) words room in ap (in_front one.answer) (steps_moved d list one.state one.room)
+steps_moved d (Err b ∷ list) words room =
+    let one = step_of_read (Err b) words room in ap (in_front one.answer) (steps_moved d list one.state one.room)
 
 -- An operation that is read whole is read so with more bytes behind it.
-read_again : (a b : List ℕ) (at : ℕ) (x : Numbers) (next : ℕ) → Bytes a → operation_at a at ≡ Operation x next
-    → operation_at (a ++ b) at ≡ Operation x next
+read_again : (a b : List ℕ) (at : ℕ) (x : Numbers) (next : ℕ) → Bytes a → operation_at a at ≡ Ok (x, next)
+    → operation_at (a ++ b) at ≡ Ok (x, next)
 read_again a b at x next h e =
     let r = what_was_read a at x next h e in
     let from : drop at (a ++ b) ≡ operation_bytes x ++ (drop next a ++ b) =
@@ -72,7 +72,7 @@ module _ (a b : List ℕ) (bytes : Bytes a) where
       let r = what_was_read a at x next bytes e in
       let more = length-append a b in
       rw (one_left (a ++ b) at (omega (arith, r.further, r.within)), one_left a at (omega (arith, r.further, r.within)), read_again a b at x next bytes e, e)
-      (ap (λ (list : List Reading). Operation x next ∷ list) (both_left r.within rest))
+      (ap (λ (list : List Reading). Ok (x, next) ∷ list) (both_left r.within rest))
 
   both : {list : List Numbers} → Holds a 0 list → readings (a ++ b) ≡ readings a ++ map (moved_reading (length a)) (readings b)
   both h = rw (← all_left (a ++ b), ← all_left a) (both_left (omega arith) h)

@@ -13,8 +13,6 @@ use Rattle.answer.specs.declared.Answer.TheVariants.{Value, Refused}
 use Rattle.answer.specs.Answer.{returned}
 use Rattle.number.specs.Number.{written}
 use Rattle.number.proofs.Laws.{Bytes}
-use Rattle.state.specs.declared.Loaded.{Loaded}
-use Rattle.state.specs.declared.Loaded.TheVariants.{Held, Unsound}
 use Rattle.state.specs.Words.{loaded, if_sound}
 use Rattle.recorder.specs.Result.{Result, together}
 use Rattle.recording.specs.declared.Numbers.{Numbers}
@@ -23,6 +21,8 @@ use Rattle.recording.specs.Run.{readings}
 use Rattle.batch.specs.Batch.{steps, in_numbers, Batch, batched, done_all, batch_of}
 use Rattle.batch.proofs.Steps.{two_each}
 use Rattle.batch.proofs.Joined.{joined}
+use Rattle.std.proofs.Common.{Some, None, Option}
+use Rattle.state.specs.declared.State.{State}
 
 -- A batch that was not refused is its steps.
 pub all_done : (words room bytes answers : List ℕ) (n : ℕ) → (batch_of words room bytes answers).answer ≡ Value n
@@ -30,13 +30,13 @@ pub all_done : (words room bytes answers : List ℕ) (n : ℕ) → (batch_of wor
 unfolding batch_of
 all_done words room bytes answers n = go (loaded words) (ltb (length answers) (2 * length (readings bytes)))
   where
-    of : Loaded → Bool → Batch Answer
+    of : Option State → Bool → Batch Answer
     of l t = if_sound l (λ s. cond t (batched (Refused 6) words room answers) (done_all (steps (readings bytes) words room) answers)) (λ k. batched (Refused k) words room answers)
 
-    go : (l : Loaded) (t : Bool) → (of l t).answer ≡ Value n → of l t ≡ done_all (steps (readings bytes) words room) answers
-    go (Held s) true e = never (cc)
-    go (Held s) false e = refl
-    go Unsound t e = never (cc)
+    go : (l : Option State) (t : Bool) → (of l t).answer ≡ Value n → of l t ≡ done_all (steps (readings bytes) words room) answers
+    go (Some s) true e = never (cc)
+    go (Some s) false e = refl
+    go None t e = never (cc)
 
 -- Its answers stand at the front of the lent place.
 front_of : (answers : List ℕ) (list : List Answer) → take (2 * length list) (written answers 0 (in_numbers list)) ≡ in_numbers list

@@ -8,7 +8,7 @@ use Rattle.answer.specs.declared.Answer.{Answer}
 use Rattle.number.specs.Number.{written}
 use Rattle.number.proofs.Laws.{written_more}
 use Rattle.recorder.specs.Result.{Result}
-use Rattle.recording.specs.declared.Reading.{Reading}
+use Rattle.recording.specs.Recording.{Reading}
 use Rattle.recording.specs.Recording.{operation_at}
 use Rattle.recording.specs.Run.{place_after}
 use Rattle.batch.specs.Batch.{step_of_read, in_front, steps, in_numbers}

@@ -3,20 +3,21 @@
 use Rattle.std.specs.Prelude.{ℕ, ◌*◌, cond, List, [], ◌∷◌, ltb, length}
 use Rattle.answer.specs.declared.Answer.{Answer}
 use Rattle.answer.specs.declared.Answer.TheVariants.{Value, Refused}
-use Rattle.answer.specs.Answer.{returned}
+use Rattle.answer.specs.Answer.{refusal_number, returned}
 use Rattle.number.specs.Number.{written}
 use Rattle.state.specs.Words.{loaded, if_sound}
 use Rattle.operation.specs.Operation.{operation_of}
 use Rattle.recorder.specs.Result.{Result, together}
 use Rattle.recorder.specs.Lent.{lent_step}
-use Rattle.recording.specs.declared.Reading.{Reading}
+use Rattle.recording.specs.Recording.{Reading}
 use Rattle.recording.specs.Run.{readings}
+use Rattle.std.specs.Prelude.{Ok, Err}
 
 -- The step of what was read, on a state that is lent as numbers: of the operation, or the refusal that reading came to, which
 -- changes nothing.
 abbrev pub step_of_read : Reading → List ℕ → List ℕ → Result Answer (List ℕ)
-step_of_read (Reading.Operation x next) words room = lent_step words (operation_of x.code x.a x.b x.c x.d) x.cycles room
-step_of_read (Reading.Refused number place) words room = together (Refused number) words room
+step_of_read (Ok (x, next)) words room = lent_step words (operation_of x.code x.a x.b x.c x.d) x.cycles room
+step_of_read (Err d) words room = together (Refused (refusal_number d.refusal)) words room
 
 -- An answer in front of those that come after it.
 abbrev pub in_front : Answer → Result (List Answer) (List ℕ) → Result (List Answer) (List ℕ)

@@ -7,18 +7,18 @@ ghost use Rattle.recording.specs.Recording.{operation_at};
 ghost use Rattle.recording.specs.Run.{readings, place_after};
 ghost use Rattle.batch.specs.Batch.{step_of_read, steps, in_numbers, batched, batch_of};
 
-use answer::Answer;
+use answer::{Answer, Refusal};
 use recorder::lent_step;
-use recording::{Reading, operation_at};
-use state::{Loaded, load};
+use recording::operation_at;
+use state::load;
 
 // Where a run goes on behind what stands at a place: at its end, where no operation can be read there.
 fn next_at(bytes: &[u8], at: usize) -> usize
     ensures { result ≡ place_after bytes.now (operation_at bytes.now at) }
 {
     match operation_at(bytes, at) {
-        Reading::Operation(_, next) => next,
-        Reading::Refused(_, _) => bytes.len(),
+        Ok((_, next)) => next,
+        Err(_) => bytes.len(),
     }
 }
 
@@ -67,13 +67,13 @@ fn turn(
     ensures answers_after { answers.new ≡ written answers.old place (in_numbers ((step_of_read (operation_at bytes.now at) words.old room.old).answer ∷ [])) }
 {
     match operation_at(bytes, at) {
-        Reading::Operation(x, next) => {
+        Ok((x, next)) => {
             let answer = lent_step(words, room, x.code, x.cycles, x.d, x.c, x.b, x.a);
             put(answers, place, answer);
             next
         }
-        Reading::Refused(number, _) => {
-            put(answers, place, Answer::Refused(number));
+        Err(damage) => {
+            put(answers, place, damage.refusal.into());
             bytes.len()
         }
     }
@@ -101,12 +101,11 @@ fn step_all(words: &mut [u64], room: &mut [u64], bytes: &[u8], answers: &mut [u6
 pub fn batch(words: &mut [u64], room: &mut [u64], bytes: &[u8], answers: &mut [u64]) -> Answer
     ensures { batched result words.new room.new answers.new ≡ batch_of words.old room.old bytes.now answers.old }
 {
-    let loaded = load(&words[..]);
-    let Loaded::Held(_) = loaded else {
-        return Answer::Refused(7);
+    let Some(_) = load(words) else {
+        return Refusal::NotSound.into();
     };
     if !at_most(bytes, answers.len() / 2) {
-        return Answer::Refused(6);
+        return Refusal::RoomTooShort.into();
     }
     let count = step_all(words, room, bytes, answers);
     Answer::Value(count as u64)

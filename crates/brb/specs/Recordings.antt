@@ -5,15 +5,16 @@ use Rattle.std.specs.Prelude.{ℕ, cond, List, ltb, length}
 use Rattle.answer.specs.declared.Answer.{Answer}
 use Rattle.answer.specs.declared.Answer.TheVariants.{Value, Refused}
 use Rattle.answer.specs.declared.Returned.{Returned}
-use Rattle.answer.specs.Answer.{returned}
+use Rattle.answer.specs.Answer.{refusal_number, returned}
 use Rattle.state.specs.Words.{stored, loaded, if_sound}
 use Rattle.recorder.specs.Result.{Result, together}
-use Rattle.recording.specs.declared.Reading.{Reading}
+use Rattle.recording.specs.Recording.{Reading}
 use Rattle.recording.specs.Recording.{operation_at}
 use Rattle.recording.specs.Operations.{stored_numbers}
 use Rattle.recording.specs.RecordedStep.{Recorded, step_of_reading}
 use Rattle.batch.specs.Batch.{Batch, batched, batch_of}
 use Rattle.brb.specs.declared.BrbRecorded.{BrbRecorded}
+use Rattle.std.specs.Prelude.{Ok, Err}
 
 -- What reading an operation answers, and what it leaves in the lent numbers.
 pub record ReadInto : Type 0 where
@@ -27,8 +28,8 @@ read_into answer lent = record { answer = answer; lent = lent }
 -- What was read, into lent numbers: the operation's six, and the place after it is answered; on a refusal they are as they
 -- were.
 abbrev pub of_reading : List ℕ → Reading → ReadInto
-of_reading lent (Reading.Operation x next) = read_into (returned (Value next)) (stored_numbers x lent)
-of_reading lent (Reading.Refused number place) = read_into (returned (Refused number)) lent
+of_reading lent (Ok (x, next)) = read_into (returned (Value next)) (stored_numbers x lent)
+of_reading lent (Err d) = read_into (returned (Refused (refusal_number d.refusal))) lent
 
 -- Reading the operation at a place. Fewer than six lent numbers are 6, before anything is read (house).
 unfoldable pub read_result : List ℕ → ℕ → List ℕ → ReadInto

@@ -4,7 +4,8 @@
 #![tactic(auto)]
 
 ghost use Rattle.std.specs.Prelude.{◌≡◌};
-ghost use Rattle.answer.specs.Answer.{returned};
+ghost use Rattle.answer.specs.declared.Answer.TheVariants.{Refused};
+ghost use Rattle.answer.specs.Answer.{refusal_number, returned};
 ghost use Rattle.count.specs.Count.{encoded, decoded, spread_of};
 ghost use Rattle.sum.specs.Sum.{summed};
 ghost use Rattle.bank.specs.Bank.{bank_shows};
@@ -15,16 +16,17 @@ ghost use Rattle.batch.specs.Batch.{batched};
 ghost use Rattle.compare.specs.Compare.{parting_of};
 ghost use Rattle.brb.specs.Recordings.{read_into, read_result, returned_at, recorded_result, batch_result};
 
-use answer::{Answer, Returned};
-use bank::{bank_inf, bank_source, bank_target};
+use answer::{Answer, Refusal, Returned};
+use bank::{Part, bank_number};
 use batch::batch;
 use compare::{Parting, compare_in_numbers};
 use count::Spread;
 use recorder::lent_step;
-use recording::{Numbers, Reading, operation_at, store_numbers, write_operation};
-use state::{Loaded, load};
+use recording::{Numbers, operation_at, store_numbers, write_operation};
+use state::load;
 
 // One operation.
+#[tactic(auto, unfolding(crate::specs::Face::step_result))]
 pub fn brb_step(
     state: &mut [u64],
     room: &mut [u64],
@@ -37,8 +39,7 @@ pub fn brb_step(
 ) -> Returned
     ensures { together result state.new room.new ≡ step_result state.old code cycles a b c d room.old }
 {
-    let answer = lent_step(state, room, code, cycles, d, c, b, a);
-    answer.returned()
+    lent_step(state, room, code, cycles, d, c, b, a).into()
 }
 
 // A read: code 5.
@@ -74,24 +75,21 @@ pub fn brb_count_sum(run: &[u64]) -> Spread
 pub fn brb_bank_inf(room: &[u64], size: u64, start: u64, bank: u64, m: u64) -> Returned
     ensures { result ≡ returned (bank_shows (λ x. x.inf) size start bank m room.now) }
 {
-    let shown = bank_inf(room, size, start, bank, m);
-    shown.returned()
+    bank_number(Part::Inf, room, size, start, bank, m).into()
 }
 
 // BRBSRC of register m, as one bank of a room shows it.
 pub fn brb_bank_source(room: &[u64], size: u64, start: u64, bank: u64, m: u64) -> Returned
     ensures { result ≡ returned (bank_shows (λ x. x.source) size start bank m room.now) }
 {
-    let shown = bank_source(room, size, start, bank, m);
-    shown.returned()
+    bank_number(Part::Source, room, size, start, bank, m).into()
 }
 
 // BRBTGT of register m, as one bank of a room shows it.
 pub fn brb_bank_target(room: &[u64], size: u64, start: u64, bank: u64, m: u64) -> Returned
     ensures { result ≡ returned (bank_shows (λ x. x.target) size start bank m room.now) }
 {
-    let shown = bank_target(room, size, start, bank, m);
-    shown.returned()
+    bank_number(Part::Target, room, size, start, bank, m).into()
 }
 
 // What a recorded step answers, and where reading goes on.
@@ -113,19 +111,26 @@ fn returned_at(answer: Answer, next: usize) -> BrbRecorded
     }
 }
 
+// A refusal, as a host is answered.
+fn answered(refusal: Refusal) -> Returned
+    ensures { result ≡ returned (Refused (refusal_number refusal)) }
+{
+    Answer::from(refusal).into()
+}
+
 // The operation at a place of a recording, as six lent numbers.
 pub fn brb_recording_read(bytes: &[u8], at: usize, lent: &mut [u64]) -> Returned
     ensures { read_into result lent.new ≡ read_result bytes.now at lent.old }
 {
     if lent.len() < 6 {
-        return Answer::Refused(6).returned();
+        return answered(Refusal::RoomTooShort);
     }
     match operation_at(bytes, at) {
-        Reading::Operation(x, next) => {
+        Ok((x, next)) => {
             store_numbers(lent, x);
-            Answer::Value(next as u64).returned()
+            Answer::Value(next as u64).into()
         }
-        Reading::Refused(number, _) => Answer::Refused(number).returned(),
+        Err(damage) => answered(damage.refusal),
     }
 }
 
@@ -143,8 +148,7 @@ pub fn brb_recording_write(
     ensures value { result ≡ returned (writing_of (numbers code cycles a b c d) at bytes.old) }
     ensures bytes_after { bytes.new ≡ written_operation (numbers code cycles a b c d) at bytes.old }
 {
-    let wrote = write_operation(bytes, at, Numbers::new(code, cycles, a, b, c, d));
-    wrote.returned()
+    write_operation(bytes, at, Numbers::new(code, cycles, a, b, c, d)).into()
 }
 
 // One operation of a recording. The state is loaded and judged first, so that after 7 nothing was read.
@@ -156,25 +160,24 @@ pub fn brb_step_recorded(
 ) -> BrbRecorded
     ensures { together result state.new room.new ≡ recorded_result state.old room.old bytes.now at }
 {
-    let loaded = load(&state[..]);
-    let Loaded::Held(_) = loaded else {
-        return returned_at(Answer::Refused(7), at);
+    let Some(_) = load(state) else {
+        return returned_at(Refusal::NotSound.into(), at);
     };
     match operation_at(bytes, at) {
-        Reading::Operation(x, next) => {
+        Ok((x, next)) => {
             let answer = lent_step(state, room, x.code, x.cycles, x.d, x.c, x.b, x.a);
             returned_at(answer, next)
         }
-        Reading::Refused(number, place) => returned_at(Answer::Refused(number), place),
+        Err(damage) => returned_at(damage.refusal.into(), damage.at),
     }
 }
 
 // A run of recorded operations.
+#[tactic(auto, unfolding(crate::specs::Recordings::batch_result))]
 pub fn brb_batch(state: &mut [u64], room: &mut [u64], bytes: &[u8], answers: &mut [u64]) -> Returned
     ensures { batched result state.new room.new answers.new ≡ batch_result state.old room.old bytes.now answers.old }
 {
-    let answer = batch(state, room, bytes, answers);
-    answer.returned()
+    batch(state, room, bytes, answers).into()
 }
 
 // Where two recordings part.

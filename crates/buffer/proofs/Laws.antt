@@ -1,52 +1,51 @@
--- Bytes moved to the front, one after another.
-use Prim.Native.Nat.{ℕ, suc, ◌+◌, ◌-◌, ◌≤◌, ◌<◌}
-use mathlib.Core.Path.{◌≡◌, sym, ◌∙◌}
-use mathlib.Core.List.{List, [], ◌++◌}
-use native.Mathlib.Numerals.{add-one}
-use native.Mathlib.Omega.{arith}
-use borrow.Author.Tests.{lt-leb, le-leb}
-use lib.ListN.{length, take, drop, get_or, set, length-take, drop_of_length-le}
-use lib.Seq.{slice, length-slice, length-take-le, take_all, take-suc, drop-cons, append_snoc, set_at, get_or-append-add, get_or-drop, get_or-take}
-use Rattle.buffer.specs.Buffer.{waiting, moved_down}
+-- What the output and the input hold after a write, and after bytes were moved to the front.
+use Rattle.std.proofs.Common.{◌≡◌, ℕ, ◌+◌, ◌-◌, ◌^◌, ◌≤◌, ◌<◌, ◌⊎◌, List, [], ◌++◌, length, take, drop, refl, sym, ◌∙◌, arith, append-nil, length-append, append_assoc}
+use Rattle.std.specs.List.{copy_within}
+use Rattle.std.proofs.lemmas.Slice.{between_is}
+use Rattle.std.proofs.lemmas.Bool.{le-leb}
+use Rattle.std.proofs.Math.Seq.{slice, length-slice}
+use Rattle.std.proofs.lemmas.Bool.Decides.{leb_tells}
+use Rattle.std.proofs.lemmas.Grind.{common_steps}
+use Rattle.number.specs.Number.{written_if, count_if}
+use Rattle.buffer.specs.Buffer.{waiting, moved_down, Put}
 
--- The input once the first i of the bytes from `at` to `end` stand in front.
-abbrev pub moved_first : ℕ → List ℕ → ℕ → ℕ → List ℕ
-moved_first i input at end = take i (slice at end input) ++ drop i input
+-- Nothing behind what waits.
+pub no_part : {out : List ℕ} → Put out [] out
+no_part {out} = record { held = λ fits. sym (append-nil out) }
 
-module _ (input : List ℕ) (at end : ℕ) (fits : end ≤ length input) where
-  -- The next of them still stands where it was.
-  next_byte : (i : ℕ) → at + i < end → get_or (moved_first i input at end) (at + i) 0 ≡ get_or (slice at end input) i 0
-  next_byte i h =
-      let s = slice at end input in
-      let long = length-slice at end input fits in
-      let front : length (take i s) ≡ i = length-take-le i s (omega arith) in
-      let place : at + i ≡ length (take i s) + at = omega arith in
-      let same : i + at ≡ at + i = omega arith in
-      rw (place, get_or-append-add, get_or-drop i input at 0, same, get_or-drop at (take end input) i 0, get_or-take end input (at + i) 0 h)
+-- A part behind another.
+pub and_part : {out between after xs ys : List ℕ} → Put out xs between → Put between ys after → Put out (xs ++ ys) after
+and_part {out} {between} {after} {xs} {ys} first second =
+    record {
+      held = λ fits.
+          let sum = length-append xs ys in
+          let front = first.held (omega arith) in
+          let behind = second.held (rw front (simp length-append (omega arith))) in
+          behind ∙ rw front (append_assoc out xs ys);
+    }
 
-  pub one_moved : (i : ℕ) → at + i < end
-      → set (moved_first i input at end) i (get_or (moved_first i input at end) (at + i) 0) ≡ moved_first (i + 1) input at end
-  one_moved i h =
-      let s = slice at end input in
-      let long = length-slice at end input fits in
-      let front : length (take i s) ≡ i = length-take-le i s (omega arith) in
-      rw (next_byte i h, add-one, drop-cons input i 0 (omega arith), take-suc s i 0 (omega arith))
-      (set_at (take i s) (get_or input i 0) (drop (suc i) input) (get_or s i 0) i front ∙ sym (append_snoc (take i s) (get_or s i 0) (drop (suc i) input)))
+-- A write of all or nothing behind what waits, and the place behind it.
+module _ (out : List ℕ) (at : ℕ) (bytes : List ℕ) (whole : length out ≡ 65536) where
+  pub one_part : Put (take at out) bytes (take (at + count_if out at bytes) (written_if out at bytes))
+  unfolding count_if written_if
+  one_part =
+      record { held = λ fits. grind (arith, common_steps, leb_tells (at + length bytes) (length out)) }
 
-  pub all_moved : at ≤ end → (end - at ≡ length (waiting input at end)) × (moved_first (end - at) input at end ≡ moved_down input at end)
+  pub place_fits : at < 2 ^ 64 → at + count_if out at bytes < 2 ^ 64
+  unfolding count_if
+  place_fits h = grind (arith, leb_tells (at + length bytes) (length out))
+
+-- Bytes moved to the front.
+module _ (input : List ℕ) (at end : ℕ) where
+  pub none_moved : (length input < end) ⊎ ((end ≤ length input) × (end < at)) → ((0 ≡ length (waiting input at end)) × (0 ≤ length input)) × (input ≡ moved_down input at end)
   unfolding waiting moved_down
-  all_moved h =
-      let long = length-slice at end input fits in
-      let e = le-leb end (length input) fits in
-      (rw e (sym long), rw (e, long, take_all (end - at) (slice at end input) (omega arith)))
+  none_moved h = grind (arith, common_steps, leb_tells end (length input), h)
 
-  pub none_moved : end < at → (0 ≡ length (waiting input at end)) × (input ≡ moved_down input at end)
+  pub all_moved : end ≤ length input → at ≤ end
+      → (end - at ≡ length (waiting input at end)) × (copy_within input at end 0 ≡ moved_down input at end)
   unfolding waiting moved_down
-  none_moved h =
-      let e = le-leb end (length input) fits in
-      let empty : slice at end input ≡ [] = drop_of_length-le (take end input) {i = at} (simp length-take (omega arith)) in
-      (rw (e, empty), rw (e, empty))
-
-pub past_input : (input : List ℕ) (at end : ℕ) → length input < end → (0 ≡ length (waiting input at end)) × (input ≡ moved_down input at end)
-unfolding waiting moved_down
-past_input input at end h = let e = lt-leb end (length input) h in (rw e, rw e)
+  all_moved fits h =
+      let long : length (slice at end input) ≡ end - at = length-slice at end input fits in
+      let between : take (end - at) (drop at input) ≡ slice at end input = between_is input at end in
+      let front : 0 + (end - at) ≡ end - at = omega arith in
+      rw (le-leb end (length input) fits, front, long, between) (refl, refl)

@@ -1,5 +1,5 @@
--- What a program keeps of the input in its buffer. docs/MANUAL.md, "Programs".
-use Rattle.std.specs.Prelude.{◌≡◌, ◌≤◌, ℕ, cond, List, [], ◌++◌, leb, length, take, drop}
+-- What a program keeps of the input in its buffer, and of the output in its own. docs/MANUAL.md, "Programs".
+use Rattle.std.specs.Prelude.{◌≡◌, ◌≤◌, ℕ, ◌+◌, cond, List, [], ◌++◌, leb, length, take, drop}
 use Rattle.std.proofs.Math.Seq.{slice}
 
 -- The bytes that wait from a place up to an end: none where the end is not behind the place, or is past the input.
@@ -14,3 +14,8 @@ moved_down input at end = waiting input at end ++ drop (length (waiting input at
 -- that takes the first n asks for the one, and for how many they are then for the other.)
 abbrev pub IsPrefixLen : ℕ → List ℕ → Type 0
 IsPrefixLen n bytes = (n ≤ length bytes) × (n ≡ length (take n bytes))
+
+-- What each part of a text promises: where its bytes have room in the 65536 bytes of the output, they stand behind those that
+-- stood there.
+pub record Put (out : List ℕ) (bytes : List ℕ) (after : List ℕ) : Type 0 where
+  pub held : length out + length bytes ≤ 65536 → after ≡ out ++ bytes

@@ -5,7 +5,9 @@ use Rattle.bits.proofs.Cases.{below_or_not}
 use Rattle.recording.specs.declared.Numbers.{Numbers}
 use Rattle.recording.specs.Operations.{Holds}
 use Rattle.recording.specs.Run.{readings}
-use Rattle.compare.specs.declared.Bad.TheVariants.{Nothing, Number}
+use Rattle.std.proofs.Common.{Some, None}
+use Rattle.recording.specs.declared.Damage.{Damage}
+use Rattle.answer.specs.Answer.{refusal_number}
 use Rattle.compare.specs.Compare.{first_bad, behind, good, bad_of, parting_of_good, parting_of}
 use Rattle.compare.specs.Parted.{swapped}
 use Rattle.compare.proofs.Front.{front_swapped, first_swapped, all_equal, none_differs}
@@ -55,12 +57,12 @@ exchanged_as_many {a} {b} {list} {others} h g same =
     ∙ rw (of_operations h g, front_swapped others list, first_swapped others list, le-ltb (length others) (length list) (omega (arith, same)), le-ltb (length list) (length others) (omega (arith, same)), end, none)
 
 -- A bad number of one alone is told of that one, whichever place it has.
-pub exchanged_bad : (a b : List ℕ) (number at : ℕ) → first_bad (readings a) ≡ Number number at → first_bad (readings b) ≡ Nothing
-    → (parting_of a b ≡ bad_of 1 number at) × (parting_of b a ≡ swapped (parting_of a b))
+pub exchanged_bad : (a b : List ℕ) (d : Damage) → first_bad (readings a) ≡ Some d → first_bad (readings b) ≡ None
+    → (parting_of a b ≡ bad_of 1 (refusal_number d.refusal) d.at) × (parting_of b a ≡ swapped (parting_of a b))
 unfolding parting_of
-exchanged_bad a b number at e f = rw (e, f) (refl, refl)
+exchanged_bad a b d e f = rw (e, f) (refl, refl)
 
 -- Of two, the first's is, wherever they stand.
-pub first_bad_lem : (a b : List ℕ) (number at : ℕ) → first_bad (readings a) ≡ Number number at → parting_of a b ≡ bad_of 1 number at
+pub first_bad_lem : (a b : List ℕ) (d : Damage) → first_bad (readings a) ≡ Some d → parting_of a b ≡ bad_of 1 (refusal_number d.refusal) d.at
 unfolding parting_of
-first_bad_lem a b number at e = rw e
+first_bad_lem a b d e = rw e

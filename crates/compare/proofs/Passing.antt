@@ -37,7 +37,7 @@ module _ (bytes : List ℕ) (each : Bytes bytes) where
   bad_behind at l =
       let p = passed_from (length bytes) bytes at in
       let u = (ends bytes (length bytes) at).stops (omega (arith, further (length bytes) at, l)) in
-      rw u.refused (sym (bad_here bytes p.at l u.number u.place u.refused)) ∙ same_bad (length bytes) at
+      rw u.refused (sym (bad_here bytes p.at l u.damage u.refused)) ∙ same_bad (length bytes) at
 
 -- ---- both
 

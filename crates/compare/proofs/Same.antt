@@ -3,8 +3,7 @@ use Rattle.std.proofs.Common.{◌≡◌, ℕ, zero, suc, ◌+◌, ◌-◌, ◌%�
 use Rattle.number.proofs.Laws.{Bytes}
 use Rattle.recording.specs.declared.Numbers.{Numbers}
 use Rattle.recording.specs.declared.Passage.{Passage}
-use Rattle.recording.specs.declared.Reading.{Reading}
-use Rattle.recording.specs.declared.Reading.TheVariants.{Operation, Refused}
+use Rattle.recording.specs.Recording.{Reading}
 use Rattle.recording.specs.Recording.{operation_at, operation_bytes}
 use Rattle.recording.specs.Run.{passed_by, passed_from}
 use Rattle.recording.proofs.Laws.{what_was_read, read_written_operation}
@@ -13,6 +12,7 @@ use Rattle.compare.specs.Walk.{met, over_equal, SameBytes}
 use Rattle.compare.proofs.Front.{nothing_differs}
 use Rattle.compare.proofs.Together.{Together, meets}
 use Rattle.compare.proofs.Passing.{not_back}
+use Rattle.std.proofs.Common.{Ok, Err}
 
 -- ---- bytes
 
@@ -36,8 +36,8 @@ module _ {a b : List ℕ} {at place other : ℕ} (s : Same a at place b other) w
       one_more a b at other k (omega (arith, h, s.here)) (omega (arith, h, s.there)) (taken k (omega (arith, h))) (s.same k (omega (arith, h)))
 
   -- What is read of the one is read of the other.
-  read_same : (x : Numbers) (next : ℕ) → Bytes a → operation_at a at ≡ Operation x next → next ≤ place
-      → operation_at b other ≡ Operation x (other + (next - at))
+  read_same : (x : Numbers) (next : ℕ) → Bytes a → operation_at a at ≡ Ok (x, next) → next ≤ place
+      → operation_at b other ≡ Ok (x, other + (next - at))
   read_same x next bytes e h =
       let r = what_was_read a at x next bytes e in
       let rest = drop (next - at) (drop other b) in
@@ -68,8 +68,8 @@ abbrev equal_at : ℕ → ℕ → ℕ → Walk
 equal_at at other equal = record { at = at; other = other; equal = equal; differing = 0; going = true }
 
 module _ (a b : List ℕ) (bytes : Bytes a) (size : length a < 2 ^ 64) where
-  one_pair : (at other equal : ℕ) (x : Numbers) (next after : ℕ) → Together a b (equal_at at other equal) → operation_at a at ≡ Operation x next
-      → operation_at b other ≡ Operation x after → Together a b (equal_at next after (equal + 1))
+  one_pair : (at other equal : ℕ) (x : Numbers) (next after : ℕ) → Together a b (equal_at at other equal) → operation_at a at ≡ Ok (x, next)
+      → operation_at b other ≡ Ok (x, after) → Together a b (equal_at next after (equal + 1))
   unfolding met
   one_pair at other equal x next after l e f =
       let m = rw (nothing_differs x) at (meets a b size (equal_at at other equal) l x x next after e f) in
@@ -94,7 +94,7 @@ module _ (a b : List ℕ) (bytes : Bytes a) (size : length a < 2 ^ 64) where
     where
       go : (r : Reading) → operation_at a at ≡ r → ((at other equal : ℕ) → Together a b (equal_at at other equal) → Over (passed_from most a at) at other equal)
           → Over (passed_by (passed_from most a) at r) at other equal
-      go (Operation x next) e more s =
+      go (Ok (x, next)) e more s =
           let r = what_was_read a at x next bytes e in
           let p = passed_from most a next in
           let on : next ≤ p.at = not_back a bytes most next in
@@ -104,7 +104,7 @@ module _ (a b : List ℕ) (bytes : Bytes a) (size : length a < 2 ^ 64) where
           let two : equal + 1 + p.count ≡ equal + suc p.count = omega arith in
           subst (λ (n : ℕ). Together a b (equal_at p.at (other + (p.at - at)) n)) two
           (subst (λ (n : ℕ). Together a b (equal_at p.at n (equal + 1 + p.count))) one m)
-      go (Refused number place) e more s = none_over at other equal l
+      go (Err d) e more s = none_over at other equal l
 
   -- The same, of a walk that met no unequal pair.
   pub leaps : (w : Walk) → Together a b w → w.differing ≡ 0 → w.going ≡ true → (most : ℕ) (p : Passage) → p ≡ passed_from most a w.at

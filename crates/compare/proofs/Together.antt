@@ -2,19 +2,19 @@
 use Rattle.std.proofs.Common.{◌≡◌, ℕ, suc, ◌+◌, ◌-◌, ◌%◌, ◌^◌, ◌<◌, ◌≤◌, Bool, true, false, cond, ◌&&◌, eqb, ltb, ◌⊎◌, List, [], ◌∷◌, length, sym, refl, ap, ◌∙◌, inl, inr, ⊎_elim, arith, le-ltb, lt-ltb, eqb-true}
 use Rattle.bits.proofs.Cases.{never, below_or_not}
 use Rattle.recording.specs.declared.Numbers.{Numbers}
-use Rattle.recording.specs.declared.Reading.{Reading}
-use Rattle.recording.specs.declared.Reading.TheVariants.{Operation, Refused}
+use Rattle.recording.specs.Recording.{Reading}
 use Rattle.recording.specs.Recording.{operation_at}
 use Rattle.recording.specs.Run.{readings}
 use Rattle.recording.proofs.Run.{left, all_left}
 use Rattle.recording.proofs.Window.{operation_reach}
 use Rattle.recording.proofs.Passes.{Unread}
-use Rattle.compare.specs.declared.Bad.{Bad}
-use Rattle.compare.specs.declared.Bad.TheVariants.{Nothing, Number}
+use Rattle.std.proofs.Common.{Option, Some, None}
+use Rattle.recording.specs.declared.Damage.{Damage}
 use Rattle.compare.specs.declared.Walk.{Walk}
 use Rattle.compare.specs.Compare.{operations, first_bad, behind, differing, equal_front, first_differing, ends_first, rest, rest_of, good, unless_bad, parting_of_good, parting_of}
 use Rattle.compare.specs.Walk.{begun, stopped_at, met, turned, bad_from, ended}
 use Rattle.compare.proofs.Left.{none, next-left, bad_on, bad_here, some}
+use Rattle.std.proofs.Common.{Ok, Err}
 
 -- What is known of one recording at the walk's place, after so many operations.
 pub record Along (bytes : List ℕ) (count at : ℕ) : Type 0 where
@@ -62,7 +62,7 @@ begins a b =
 -- ---- a turn
 
 -- One recording goes on behind an operation.
-pub goes_on : (bytes : List ℕ) (count at : ℕ) (x : Numbers) (next : ℕ) → Along bytes count at → operation_at bytes at ≡ Operation x next → Along bytes (suc count) next
+pub goes_on : (bytes : List ℕ) (count at : ℕ) (x : Numbers) (next : ℕ) → Along bytes count at → operation_at bytes at ≡ Ok (x, next) → Along bytes (suc count) next
 unfolding operations behind
 goes_on bytes count at x next l e =
     let (further, within) = operation_reach bytes at x next l.within e in
@@ -100,7 +100,7 @@ at_most false equal more at next e h l = omega arith
 
 module _ (a b : List ℕ) (size : length a < 2 ^ 64) (w : Walk) (l : Together a b w) where
   -- A pair is read.
-  pub meets : (x y : Numbers) (next after : ℕ) → operation_at a w.at ≡ Operation x next → operation_at b w.other ≡ Operation y after
+  pub meets : (x y : Numbers) (next after : ℕ) → operation_at a w.at ≡ Ok (x, next) → operation_at b w.other ≡ Ok (y, after)
       → Together a b (met (differing x y) next after w)
   unfolding met operations equal_front first_differing
   meets x y next after e f =
@@ -141,25 +141,25 @@ module _ (a b : List ℕ) (size : length a < 2 ^ 64) (w : Walk) (l : Together a 
       }
 
   pub turns : (r s : Reading) → operation_at a w.at ≡ r → operation_at b w.other ≡ s → Together a b (turned r s w)
-  turns (Operation x next) (Operation y after) e f = meets x y next after e f
-  turns (Operation x next) (Refused number place) e f = stays (inr (record { number = number; place = place; refused = f }))
-  turns (Refused number place) s e f = stays (inl (record { number = number; place = place; refused = e }))
+  turns (Ok (x, next)) (Ok (y, after)) e f = meets x y next after e f
+  turns (Ok (x, next)) (Err d) e f = stays (inr (record { damage = d; refused = f }))
+  turns (Err d) s e f = stays (inl (record { damage = d; refused = e }))
 
   -- Either it goes further in the first, or it goes no more.
   pub lessens : (r s : Reading) → operation_at a w.at ≡ r → operation_at b w.other ≡ s → w.going ≡ true
       → (length a - (turned r s w).at) + cond (turned r s w).going 1 0 < (length a - w.at) + cond w.going 1 0
   unfolding met
-  lessens (Operation x next) (Operation y after) e f h =
+  lessens (Ok (x, next)) (Ok (y, after)) e f h =
       let (further, within) = operation_reach a w.at x next l.first.within e in rw h (omega arith)
-  lessens (Operation x next) (Refused number place) e f h = rw h (omega arith)
-  lessens (Refused number place) s e f h = rw h (omega arith)
+  lessens (Ok (x, next)) (Err d) e f h = rw h (omega arith)
+  lessens (Err d) s e f h = rw h (omega arith)
 
 -- ---- where it ended
 
 -- Where nothing can be read and nothing is bad, the recording has ended.
-over : (bytes : List ℕ) (at : ℕ) → bad_from bytes at ≡ Nothing → Unread bytes at → length bytes ≤ at
+over : (bytes : List ℕ) (at : ℕ) → bad_from bytes at ≡ None → Unread bytes at → length bytes ≤ at
 over bytes at none-bad u =
-    ⊎_elim (λ (there : at < length bytes). let both : Number u.number u.place ≡ Nothing = sym (bad_here bytes at there u.number u.place u.refused) ∙ none-bad in never (cc))
+    ⊎_elim (λ (there : at < length bytes). let both : Some u.damage ≡ None = sym (bad_here bytes at there u.damage u.refused) ∙ none-bad in never (cc))
     (λ (h : length bytes ≤ at). h) (below_or_not at (length bytes))
 
 no_front : (list : List Numbers) → equal_front list [] ≡ 0
@@ -183,7 +183,7 @@ nothing_differs n front e = go (eqb n 0) refl
     go true h = e ∙ sym (eqb-true n 0 h)
     go false h = refl
 
-module _ (a b : List ℕ) (w : Walk) (l : Together a b w) (good-a : bad_from a w.at ≡ Nothing) (good-b : bad_from b w.other ≡ Nothing) (one-over : (length a ≤ w.at) ⊎ (length b ≤ w.other)) where
+module _ (a b : List ℕ) (w : Walk) (l : Together a b w) (good-a : bad_from a w.at ≡ None) (good-b : bad_from b w.other ≡ None) (one-over : (length a ≤ w.at) ⊎ (length b ≤ w.other)) where
   abbrev p : List Numbers
   p = operations (left a w.at)
 
@@ -255,11 +255,11 @@ pub done : (a b : List ℕ) (w : Walk) → Together a b w → w.going ≡ false
 unfolding parting_of
 done a b w l stopped = rw (l.first.same_bad, l.second.same_bad) (go (first_bad (readings a)) (first_bad (readings b)) refl refl)
   where
-    go : (x y : Bad) → first_bad (readings a) ≡ x → first_bad (readings b) ≡ y
+    go : (x y : Option Damage) → first_bad (readings a) ≡ x → first_bad (readings b) ≡ y
         → unless_bad x y (ended (length a) (length b) w) ≡ unless_bad x y (parting_of_good a b (operations (readings a)) (operations (readings b)))
-    go (Number number at) y e f = refl
-    go Nothing (Number number at) e f = refl
-    go Nothing Nothing e f =
+    go (Some d) y e f = refl
+    go None (Some d) e f = refl
+    go None None e f =
         let good-a = l.first.same_bad ∙ e in
         let good-b = l.second.same_bad ∙ f in
         good-ended a b w l good-a good-b

@@ -1,34 +1,35 @@
 -- Where two recordings part. Document 02, "Eight"; docs/MANUAL.md, "Comparing recordings".
 use Rattle.std.specs.Prelude.{ℕ, zero, suc, ◌+◌, ◌-◌, cond, List, [], ◌∷◌, length, drop, ◌==◌, nat_lt}
 use Rattle.recording.specs.declared.Numbers.{Numbers}
-use Rattle.recording.specs.declared.Reading.{Reading}
-use Rattle.recording.specs.declared.Reading.TheVariants.{Operation, Refused}
+use Rattle.recording.specs.Recording.{Reading}
 use Rattle.recording.specs.Run.{readings}
-use Rattle.compare.specs.declared.Bad.{Bad}
-use Rattle.compare.specs.declared.Bad.TheVariants.{Nothing, Number}
+use Rattle.std.specs.Prelude.{Option, Some, None}
+use Rattle.recording.specs.declared.Damage.{Damage}
+use Rattle.answer.specs.Answer.{refusal_number}
 use Rattle.compare.specs.declared.Rest.{Rest}
 use Rattle.compare.specs.declared.Parting.{Parting}
+use Rattle.std.specs.Prelude.{Ok, Err}
 
 -- ---- what one recording holds
 
 -- The operations of what was read; what could not be read is none, and ends it.
 unfoldable pub operations : List Reading → List Numbers
 operations [] = []
-operations (Operation x next ∷ list) = x ∷ operations list
-operations (Refused number place ∷ list) = []
+operations (Ok (x, next) ∷ list) = x ∷ operations list
+operations (Err d ∷ list) = []
 
 -- The first bad number of what was read: the number of its refusal, and the byte where it starts.
-unfoldable pub first_bad : List Reading → Bad
-first_bad [] = Nothing
-first_bad (Operation x next ∷ list) = first_bad list
-first_bad (Refused number place ∷ list) = Number number place
+unfoldable pub first_bad : List Reading → Option Damage
+first_bad [] = None
+first_bad (Ok (x, next) ∷ list) = first_bad list
+first_bad (Err d ∷ list) = Some d
 
 -- The place behind so many of the operations that were read from a place on.
 unfoldable pub behind : ℕ → ℕ → List Reading → ℕ
 behind zero at list = at
 behind (suc k) at [] = at
-behind (suc k) at (Operation x next ∷ list) = behind k next list
-behind (suc k) at (Refused number place ∷ list) = at
+behind (suc k) at (Ok (x, next) ∷ list) = behind k next list
+behind (suc k) at (Err d ∷ list) = at
 
 -- ---- two operations, and two lists of them
 
@@ -84,10 +85,10 @@ abbrev pub good : ℕ → ℕ → ℕ → Rest → Parting
 good equal ending differing rest = record { number = 0; which = 0; at = 0; equal = equal; ending = ending; differing = differing; rest = rest }
 
 -- The first recording's bad number goes before the second's, wherever the two stand; and either before all else.
-abbrev pub unless_bad : Bad → Bad → Parting → Parting
-unless_bad (Number number at) second parting = bad_of 1 number at
-unless_bad Nothing (Number number at) parting = bad_of 2 number at
-unless_bad Nothing Nothing parting = parting
+abbrev pub unless_bad : Option Damage → Option Damage → Parting → Parting
+unless_bad (Some d) second parting = bad_of 1 (refusal_number d.refusal) d.at
+unless_bad None (Some d) parting = bad_of 2 (refusal_number d.refusal) d.at
+unless_bad None None parting = parting
 
 -- Where two recordings part that can be read, by their operations.
 abbrev pub parting_of_good : List ℕ → List ℕ → List Numbers → List Numbers → Parting

@@ -1,16 +1,16 @@
 -- How two recordings are read together, pair by pair, and what is answered where that ends. docs/MANUAL.md, "Comparing recordings".
 use Rattle.std.specs.Prelude.{◌≡◌, ℕ, ◌+◌, ◌-◌, ◌/◌, ◌%◌, ◌^◌, ◌<◌, ◌≤◌, Bool, true, false, cond, ◌&&◌, ◌≢◌, List, length, ◌==◌, nat_le, nat_lt, slice_index}
 use Rattle.recording.specs.declared.Passage.{Passage}
-use Rattle.recording.specs.declared.Reading.{Reading}
-use Rattle.recording.specs.declared.Reading.TheVariants.{Operation, Refused}
+use Rattle.recording.specs.Recording.{Reading}
 use Rattle.recording.specs.Recording.{operation_at}
 use Rattle.recording.specs.Run.{read_from, passed_from}
-use Rattle.compare.specs.declared.Bad.{Bad}
-use Rattle.compare.specs.declared.Bad.TheVariants.{Nothing, Number}
+use Rattle.std.specs.Prelude.{Option, Some, None}
+use Rattle.recording.specs.declared.Damage.{Damage}
 use Rattle.compare.specs.declared.Parting.{Parting}
 use Rattle.compare.specs.declared.Leap.{Leap}
 use Rattle.compare.specs.declared.Walk.{Walk}
 use Rattle.compare.specs.Compare.{differing, first_bad, rest, good}
+use Rattle.std.specs.Prelude.{Ok, Err}
 
 -- Before the first pair.
 abbrev pub begun : Walk
@@ -34,9 +34,9 @@ met difference next after w =
 
 -- After a turn, by what was read of the one and of the other.
 abbrev pub turned : Reading → Reading → Walk → Walk
-turned (Operation x next) (Operation y after) w = met (differing x y) next after w
-turned (Operation x next) (Refused number place) w = stopped_at w
-turned (Refused number place) other w = stopped_at w
+turned (Ok (x, next)) (Ok (y, after)) w = met (differing x y) next after w
+turned (Ok (x, next)) (Err d) w = stopped_at w
+turned (Err d) other w = stopped_at w
 
 -- At other places, with all else as it was.
 abbrev pub moved_to : ℕ → ℕ → Bool → Walk → Walk
@@ -79,12 +79,12 @@ pub data Turned (a b : List ℕ) (l r : Leap) : Type 0 where
   fewer : l.most ≢ 0 → r ≡ record { walk = l.walk; most = l.most / 2 } → Turned a b l r
 
 -- What is wrong with what was read.
-abbrev pub bad_of_reading : Reading → Bad
-bad_of_reading (Operation x next) = Nothing
-bad_of_reading (Refused number place) = Number number place
+abbrev pub bad_of_reading : Reading → Option Damage
+bad_of_reading (Ok (x, next)) = None
+bad_of_reading (Err d) = Some d
 
 -- A recording's first bad number from a place on.
-unfoldable pub bad_from : List ℕ → ℕ → Bad
+unfoldable pub bad_from : List ℕ → ℕ → Option Damage
 bad_from bytes at = first_bad (read_from (length bytes - at) bytes at)
 
 -- What is answered where the walk ended and neither has a bad number, by how many bytes the two have: one of them at least has

@@ -7,7 +7,7 @@ ghost use Rattle.compare.specs.Compare.{unlike, differing, rest, good, bad_of, u
 ghost use Rattle.compare.specs.Walk.{begun, stopped_at, met, turned, moved_to, over_equal, at_once, passed_both, SameBytes, Turned, bad_of_reading, bad_from, ended};
 
 use bits::pick;
-use recording::{Numbers, Reading, operation_at, pass};
+use recording::{Damage, Numbers, operation_at, pass};
 use std::num::wrapping_add_u64;
 
 // Which recording: the first or the second; 0 is neither.
@@ -27,14 +27,6 @@ pub const B: u64 = 8;
 pub const C: u64 = 16;
 
 pub const D: u64 = 32;
-
-// A recording's first bad number.
-#[derive(Clone, Copy)]
-pub enum Bad {
-    Nothing,
-    // The number of its refusal, and the byte where it starts, or would start.
-    Number(u64, usize),
-}
 
 // What a recording holds from a place on: which recording, the place, and how many bytes.
 #[repr(C)]
@@ -205,10 +197,10 @@ pub fn same_bytes(a: &[u8], at: usize, next: usize, b: &[u8], other: usize) -> b
 fn read_pair(a: &[u8], b: &[u8], w: Walk) -> Walk
     ensures { result ≡ turned (operation_at a.now w.at) (operation_at b.now w.other) w }
 {
-    let Reading::Operation(x, next) = operation_at(a, w.at) else {
+    let Ok((x, next)) = operation_at(a, w.at) else {
         return w.stopped();
     };
-    let Reading::Operation(y, after) = operation_at(b, w.other) else {
+    let Ok((y, after)) = operation_at(b, w.other) else {
         return w.stopped();
     };
     w.after(differing_of(x, y), next, after)
@@ -261,24 +253,21 @@ fn turn(a: &[u8], b: &[u8], l: Leap) -> Leap
 }
 
 // What is wrong with the operation at a place that cannot be read.
-fn bad_at(bytes: &[u8], at: usize) -> Bad
+fn bad_at(bytes: &[u8], at: usize) -> Option<Damage>
     ensures { result ≡ bad_of_reading (operation_at bytes.now at) }
 {
-    match operation_at(bytes, at) {
-        Reading::Operation(_, _) => Bad::Nothing,
-        Reading::Refused(number, start) => Bad::Number(number, start),
-    }
+    operation_at(bytes, at).err()
 }
 
 // A recording's first bad number from a place on.
-fn bad_from(bytes: &[u8], place: usize) -> Bad
+fn bad_from(bytes: &[u8], place: usize) -> Option<Damage>
     ensures { result ≡ bad_from bytes.now place }
 {
     let p = pass(bytes, place, bytes.len());
     if p.at < bytes.len() {
         return bad_at(bytes, p.at);
     }
-    Bad::Nothing
+    None
 }
 
 // How many bytes stand from a place on, of so many.
@@ -356,11 +345,11 @@ pub fn parted(first: usize, second: usize, w: Walk) -> Parting
 fn parted_unless_bad(a: &[u8], b: &[u8], w: Walk) -> Parting
     ensures { result ≡ unless_bad (bad_from a.now w.at) (bad_from b.now w.other) (ended (length a.now) (length b.now) w) }
 {
-    if let Bad::Number(number, at) = bad_from(a, w.at) {
-        return bad_number(FIRST, number, at);
+    if let Some(bad) = bad_from(a, w.at) {
+        return bad_number(FIRST, bad.refusal.number(), bad.at);
     }
-    if let Bad::Number(number, at) = bad_from(b, w.other) {
-        return bad_number(SECOND, number, at);
+    if let Some(bad) = bad_from(b, w.other) {
+        return bad_number(SECOND, bad.refusal.number(), bad.at);
     }
     parted(a.len(), b.len(), w)
 }

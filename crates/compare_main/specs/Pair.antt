@@ -2,8 +2,7 @@
 use Rattle.std.specs.Prelude.{◌≡◌, ℕ, ◌+◌, ◌-◌, ◌%◌, ◌^◌, cond, ◌≢◌, List, ◌==◌}
 use Rattle.recording.specs.declared.Numbers.{Numbers}
 use Rattle.recording.specs.declared.Passage.{Passage}
-use Rattle.recording.specs.declared.Reading.{Reading}
-use Rattle.recording.specs.declared.Reading.TheVariants.{Operation, Refused}
+use Rattle.recording.specs.Recording.{Reading}
 use Rattle.recording.specs.Recording.{operation_at}
 use Rattle.recording.specs.Run.{passed_from}
 use Rattle.compare.specs.Compare.{differing}
@@ -13,6 +12,7 @@ use Rattle.comparison.specs.declared.Told.{Told}
 use Rattle.input.specs.declared.Window.{Window}
 use Rattle.input.specs.Input.{passed_at, place_of, at_once}
 use Rattle.compare_main.specs.declared.Pair.{Pair}
+use Rattle.std.specs.Prelude.{Ok, Err}
 
 -- After a pair that was read: both windows stand behind it, the walk has it, and it is kept where it is the first that is unequal.
 -- (Until one is, the last pair that was read is kept.)
@@ -32,9 +32,9 @@ ended_at p = record { first = p.first; second = p.second; walk = walk.stopped_at
 
 -- By what was read of the one and of the other.
 abbrev pub pair_at : Reading → Reading → Pair → Pair
-pair_at (Operation x next) (Operation y after) p = met_at x next y after p
-pair_at (Operation x next) (Refused number place) p = ended_at p
-pair_at (Refused number place) other p = ended_at p
+pair_at (Ok (x, next)) (Ok (y, after)) p = met_at x next y after p
+pair_at (Ok (x, next)) (Err d) p = ended_at p
+pair_at (Err d) other p = ended_at p
 
 -- Behind so many operations of both, of which so many are equal pairs.
 abbrev pub moved_pair : ℕ → ℕ → ℕ → ℕ → Pair → Pair

@@ -7,15 +7,15 @@ ghost use Rattle.recording.specs.Recording.{operation_at};
 ghost use Rattle.compare_main.specs.Pair.{met_at, ended_at, pair_at, moved_pair, Moved, more_of, told_of};
 ghost use Rattle.compare.specs.Walk.{SameBytes};
 
-use arguments::{CalledTwo, Input, look_two, name_at};
+use arguments::{Called, look_two};
 use bits::pick;
-use buffer::{ROOM, flush, within};
+use buffer::{Output, ROOM, within};
 use compare::{FIRST, SECOND, Walk, bad_number, differing_of, parted, same_bytes};
 use comparison::{Told, put_told};
 use input::{AT_ONCE, FAILED, Window, found_at, passage_at, reading_at, refilled, turn};
-use message::say_damage;
-use program::{Program, Reader};
-use recording::{Numbers, Reading};
+use message::NamedInput;
+use program::Program;
+use recording::Numbers;
 use std::num::{wrapping_add_u64, wrapping_sub_u64};
 
 // Two inputs that are read together: what of each is in its buffer, how far the walk along both is, and the pair that is kept.
@@ -71,10 +71,10 @@ fn next_pair(a: &[u8; ROOM], b: &[u8; ROOM], p: Pair) -> Pair
 {
     let first = p.first;
     let second = p.second;
-    let Reading::Operation(x, next) = reading_at(a, first.end, first.start) else {
+    let Ok((x, next)) = reading_at(a, first.end, first.start) else {
         return ended_pair(p);
     };
-    let Reading::Operation(y, after) = reading_at(b, second.end, second.start) else {
+    let Ok((y, after)) = reading_at(b, second.end, second.start) else {
         return ended_pair(p);
     };
     met_pair(x, next, y, after, p)
@@ -165,25 +165,21 @@ fn with_second(second: Window, mut p: Pair) -> Pair {
     if second.going { p } else { ended_pair(p) }
 }
 
-// An input, and the place of its name among the arguments.
-#[derive(Drop)]
-struct Named {
-    reader: Reader,
-    place: usize,
-}
-
 // Reads once.
-fn read_once(program: Program, input: &mut Named, bytes: &mut [u8; ROOM], w: Window) -> Window {
-    let mut name = [0u8; 4096];
-    let n = name_at(program, input.place, &mut name);
-    refilled(program, &mut input.reader, &name[..n], bytes, w)
+fn read_once(
+    program: Program,
+    input: &mut NamedInput,
+    bytes: &mut [u8; ROOM],
+    w: Window,
+) -> Window {
+    refilled(program, &mut input.reader, input.name.text(), bytes, w)
 }
 
 // Compares pairs, or reads once where too little is there to be sure of a whole operation.
 fn walk_turn(
     program: Program,
-    one: &mut Named,
-    two: &mut Named,
+    one: &mut NamedInput,
+    two: &mut NamedInput,
     a: &mut [u8; ROOM],
     b: &mut [u8; ROOM],
     p: Pair,
@@ -203,8 +199,8 @@ fn walk_turn(
 // uses up.
 fn walk_all(
     program: Program,
-    one: &mut Named,
-    two: &mut Named,
+    one: &mut NamedInput,
+    two: &mut NamedInput,
     a: &mut [u8; ROOM],
     b: &mut [u8; ROOM],
 ) -> Pair {
@@ -229,37 +225,24 @@ fn walk_all(
 // Reads one input on to its end, or to its first bad number.
 fn read_to_end(
     program: Program,
-    reader: &mut Reader,
-    name: &[u8],
+    input: &mut NamedInput,
     bytes: &mut [u8; ROOM],
     begun: Window,
 ) -> Window {
     let mut w = begun;
     let mut turns = u64::MAX;
     while turns > 0 && w.going {
-        w = turn(program, reader, name, bytes, w);
+        w = turn(program, &mut input.reader, input.name.text(), bytes, w);
         turns -= 1;
     }
     w
 }
 
-// The same where its name stands at its place of the arguments.
-fn read_on(program: Program, input: &mut Named, bytes: &mut [u8; ROOM], begun: Window) -> Window {
-    let mut name = [0u8; 4096];
-    let n = name_at(program, input.place, &mut name);
-    read_to_end(program, &mut input.reader, &name[..n], bytes, begun)
-}
-
-// The first bytes go out.
-fn send(program: Program, out: &[u8; ROOM], length: usize) {
-    flush(program, out, length);
-}
-
 // What is told goes out.
 fn tell(program: Program, numbers: bool, t: Told) {
-    let mut out = [0u8; ROOM];
-    let length = put_told(&mut out, numbers, t);
-    send(program, &out, length);
+    let mut out = Output::new();
+    put_told(&mut out, numbers, t);
+    out.flush(program);
 }
 
 // A recording cannot be read on: what is wrong is said, and with `--numbers` the numbers too. What the system could not read was
@@ -268,15 +251,13 @@ fn tell_bad(
     program: Program,
     numbers: bool,
     which: u64,
-    place: usize,
+    input: &NamedInput,
     bytes: &[u8; ROOM],
     w: Window,
 ) {
     if w.number == FAILED {
         return;
     }
-    let mut name = [0u8; 4096];
-    let n = name_at(program, place, &mut name);
     if numbers {
         let parting = bad_number(which, w.number, w.place() as usize);
         let none = Numbers::new(0, 0, 0, 0, 0, 0);
@@ -291,9 +272,7 @@ fn tell_bad(
             },
         );
     }
-    say_damage(
-        program,
-        &name[..n],
+    input.say_damage(
         w.place(),
         wrapping_add_u64(w.operations, 1),
         found_at(bytes, w.end, w.start),
@@ -329,18 +308,18 @@ fn told_of(first: Window, second: Window, p: Pair) -> Told
 
 // Compares the two inputs. Both are read to their ends before anything is told, since a bad number anywhere in either is all that
 // is then told, the first's before the second's.
-fn compare_inputs(program: Program, one: &mut Named, two: &mut Named, numbers: bool) {
+fn compare_inputs(program: Program, one: &mut NamedInput, two: &mut NamedInput, numbers: bool) {
     let mut a = [0u8; ROOM];
     let mut b = [0u8; ROOM];
     let p = walk_all(program, one, two, &mut a, &mut b);
-    let first = read_on(program, one, &mut a, p.first);
+    let first = read_to_end(program, one, &mut a, p.first);
     if first.number != 0 {
-        tell_bad(program, numbers, FIRST, one.place, &a, first);
+        tell_bad(program, numbers, FIRST, one, &a, first);
         return;
     }
-    let second = read_on(program, two, &mut b, p.second);
+    let second = read_to_end(program, two, &mut b, p.second);
     if second.number != 0 {
-        tell_bad(program, numbers, SECOND, two.place, &b, second);
+        tell_bad(program, numbers, SECOND, two, &b, second);
         return;
     }
     tell(program, numbers, told_of(first, second, p));
@@ -350,26 +329,17 @@ fn main(rt: HostRuntime) {
     let program = Program::new(rt, b"compare");
     let usage =
         b"usage: compare [--numbers] A B\n\nTells where the recordings A and B part. One of them may be -, standard input.\n\n  --numbers   one line for a script: the nine numbers of struct brb_parting\n  --help, -h  this text\n  --version   the version\n  --          what comes behind it is no option\n\nHow many operations are equal at the front; the first pair that is not, as list shows it, A's and then B's, with\nthe names of what differs; and which recording ends first, with what is left of the other. A recording that\ncannot be read on is said on standard error, with the byte where its bad number starts, counted from 0.\n\nRun as brb compare, the status is 0 where they are equal, 1 where they differ, and 2 where something was wrong.\n";
-    let CalledTwo {
-        first,
-        second,
+    let Called {
+        inputs,
         numbers,
-        first_name,
-        second_name,
+        ..
     } = look_two(program, usage);
-    let Input::Opened(first) = first else {
+    let (first, second) = inputs;
+    let Some(mut one) = first else {
         return;
     };
-    let Input::Opened(second) = second else {
+    let Some(mut two) = second else {
         return;
-    };
-    let mut one = Named {
-        reader: first,
-        place: first_name,
-    };
-    let mut two = Named {
-        reader: second,
-        place: second_name,
     };
     compare_inputs(program, &mut one, &mut two, numbers);
 }

@@ -1,11 +1,10 @@
 -- How long what is printed is.
-use Rattle.std.proofs.Common.{◌≡◌, ℕ, ◌+◌, ◌*◌, ◌%◌, ◌^◌, ◌≤◌, Bool, true, false, cond, eqb, List, [], ◌∷◌, length, arith, length-append}
-use Rattle.number.specs.Number.{written}
+use Rattle.std.proofs.Common.{ℕ, ◌+◌, ◌*◌, ◌%◌, ◌^◌, ◌≤◌, Bool, true, false, cond, eqb, List, [], ◌∷◌, length, arith, length-append}
 use Rattle.text.specs.Text.{bytes_of_text}
 use Rattle.text.proofs.Laws.{length-decimal}
 use Rattle.notation.specs.Text.{spaced}
 use Rattle.recording.specs.declared.Numbers.{Numbers}
-use Rattle.readable.specs.Readable.{Put, readable_line, line_of}
+use Rattle.readable.specs.Readable.{readable_line, line_of}
 use Rattle.readable.proofs.Laws.{either, length-spaced, length_line}
 use Rattle.compare.specs.declared.Rest.{Rest}
 use Rattle.difference.proofs.Laws.{short_differing}
@@ -41,7 +40,7 @@ short_last t =
     (either (eqb t.parting.ending 2) (left_line second t.left r) neither 200 (short_left second t.left r (omega arith))
     (either (eqb t.parting.differing 0) (bytes_of_text "no difference\n") (bytes_of_text "neither ends first\n") 200 (omega arith) (omega arith)))
 
-short_told : (numbers : Bool) (t : Told) → length (told numbers t) ≤ 2000
+pub short_told : (numbers : Bool) (t : Told) → length (told numbers t) ≤ 2000
 unfolding told lines numbers_of
 short_told true t =
     let p = t.parting in
@@ -51,11 +50,3 @@ short_told true t =
 short_told false t =
     let pair = either (eqb t.parting.differing 0) [] (unequal_lines t) 1000 (omega arith) (short_unequal t) in
     simp length-append (omega (arith, length-decimal t.parting.equal, plural t.parting.equal, pair, short_last t))
-
--- What is printed has room from the front on.
-pub from_the_front : {at place : ℕ} {after : List ℕ} (out : List ℕ) (numbers : Bool) (t : Told) → length out ≡ 65536 → at ≡ 0
-    → Put out at (told numbers t) place after
-    → (place ≡ length (told numbers t)) × (after ≡ written out 0 (told numbers t))
-from_the_front {at} {place} {after} out numbers t whole e put =
-    let at_front : Put out 0 (told numbers t) place after = rw e at put in
-    let (place, content) = at_front.held (omega (arith, whole, short_told numbers t)) in (omega arith, content)

@@ -1,12 +1,12 @@
 // What `pack` says on standard error of a text that it cannot read.
 #![tactic(auto)]
 
-ghost use Rattle.std.specs.Prelude.{◌≤◌, ◌≡◌, false, length, take, drop};
+ghost use Rattle.std.specs.Prelude.{◌≡◌, ◌≤◌, false, length, take, drop};
 ghost use Rattle.complaint.specs.Returns.{lone_return};
 
 use buffer::within;
 use message::say_input;
-use notation::{Problem, separates};
+use notation::{Problem, Wrong, separates};
 use operation::LAST_CODE;
 use program::Program;
 use recording::field_count;
@@ -25,11 +25,7 @@ pub struct Spot {
 // A number, and what is behind 1 or behind any other.
 fn say_counted(program: Program, n: u64, one: &[u8], many: &[u8]) {
     program.say_number(n);
-    if n == 1 {
-        program.say(one);
-    } else {
-        program.say(many);
-    }
+    program.say(if n == 1 { one } else { many });
 }
 
 // Whether a byte of a word is one that a text holds and a terminal prints.
@@ -37,96 +33,66 @@ fn is_printed(byte: u8) -> bool {
     (32 < byte) & (byte < 127)
 }
 
-// So many places on, or the bytes' end.
-fn further(bytes: &[u8], at: usize, most: usize) -> usize
-    requires { at ≤ length bytes.now }
-    ensures { (at ≤ result) × (result ≤ length bytes.now) }
+// How many bytes of the word in front of a text are printed.
+fn printed_length(text: &[u8]) -> usize
+    ensures { result ≤ length text.now }
 {
-    if bytes.len() - at < most {
-        return bytes.len();
-    }
-    at + most
+    text.iter()
+        .take_while(|byte| is_printed(**byte) & !separates(**byte))
+        .count()
 }
 
-// The place after the bytes of the word at a place that are printed, and at most so many.
-fn printed_end(bytes: &[u8], at: usize, most: usize) -> usize
-    requires { at ≤ length bytes.now }
-    ensures { (at ≤ result) × (result ≤ length bytes.now) }
-{
-    let stop = further(bytes, at, most);
-    let mut i = at;
-    while i < stop {
-        if separates(bytes[i]) | !is_printed(bytes[i]) {
-            return i;
-        }
-        i += 1;
-    }
-    i
+// Whether a word goes on at a place of a text, and does not end before it.
+fn goes_on(text: &[u8], at: usize) -> bool {
+    text.get(at).is_some_and(|byte| !separates(*byte))
 }
 
-// The bytes of the word at a place that are printed, in quotation marks; dots stand for those past the first.
-fn say_word(program: Program, bytes: &[u8], at: usize)
-    requires { at ≤ length bytes.now }
-{
-    let end = printed_end(bytes, at, SHOWN);
+// The bytes of the word in front of a text that are printed, in quotation marks; dots stand for those past the first.
+fn say_word(program: Program, text: &[u8]) {
+    let n = printed_length(text).min(SHOWN);
     program.say(b"\"");
-    program.say(&bytes[at..end]);
-    if end < bytes.len() {
-        if !separates(bytes[end]) {
-            program.say(b"...");
-        }
+    program.say(&text[..n]);
+    if goes_on(text, n) {
+        program.say(b"...");
     }
     program.say(b"\"");
-}
-
-// Whether UTF-8's byte-order mark stands at a place.
-fn is_mark(bytes: &[u8], at: usize) -> bool {
-    if bytes.len() < 3 {
-        return false;
-    }
-    if bytes.len() - 3 < at {
-        return false;
-    }
-    (bytes[at] == 0xEF) & (bytes[at + 1] == 0xBB) & (bytes[at + 2] == 0xBF)
 }
 
 // A word that is no number: a byte-order mark, bytes that are no text, or any other.
-fn say_no_number(program: Program, bytes: &[u8], at: usize)
-    requires { at ≤ length bytes.now }
-{
-    if is_mark(bytes, at) {
+fn say_no_number(program: Program, text: &[u8]) {
+    if text.starts_with(b"\xEF\xBB\xBF") {
         program.say(b"a byte-order mark stands here: save the text without it");
         return;
     }
-    let end = printed_end(bytes, at, bytes.len());
-    if end < bytes.len() {
-        if !separates(bytes[end]) {
+    match text.get(printed_length(text)) {
+        Some(byte) if !separates(*byte) => {
             program.say(b"the byte 0x");
-            program.say_byte(bytes[end]);
+            program.say_byte(*byte);
             program.say(
                 b" is no text: pack reads numbers in text, and list and replay read a recording",
             );
-            return;
+        }
+        _ => {
+            say_word(program, text);
+            program.say(b" is no number in decimal or 0x hexadecimal");
         }
     }
-    say_word(program, bytes, at);
-    program.say(b" is no number in decimal or 0x hexadecimal");
 }
 
 // The kind of operation a code has, as the message names it.
-fn say_kind(program: Program, code: u64) {
+fn kind_of(code: u64) -> &'static [u8] {
     match code {
-        0 => program.say(b"a reset"),
-        1 => program.say(b"a branch"),
-        2 => program.say(b"an exception"),
-        3 => program.say(b"a return"),
-        4 => program.say(b"a platform word"),
-        5 => program.say(b"a read"),
-        6 => program.say(b"a write"),
-        8 => program.say(b"a halt"),
-        9 => program.say(b"a resume"),
-        10 => program.say(b"a freeze"),
-        _ => program.say(b"a BRB IALL"),
+        0 => b"a reset",
+        1 => b"a branch",
+        2 => b"an exception",
+        3 => b"a return",
+        4 => b"a platform word",
+        5 => b"a read",
+        6 => b"a write",
+        8 => b"a halt",
+        9 => b"a resume",
+        10 => b"a freeze",
+        _ => b"a BRB IALL",
     }
 }
 
@@ -136,7 +102,7 @@ fn say_count(program: Program, code: u64, count: u64) {
         program.say(b"the cycles are missing");
         return;
     }
-    say_kind(program, code);
+    program.say(kind_of(code));
     program.say(b" has ");
     say_counted(
         program,
@@ -147,44 +113,45 @@ fn say_count(program: Program, code: u64, count: u64) {
     say_counted(program, count - 2, b" stands here", b" stand here");
 }
 
+// The bytes from a place on that stand before another.
+fn between(bytes: &[u8], from: usize, to: usize) -> &[u8]
+    ensures { result.now ≡ drop from (take to bytes.now) }
+{
+    let front = &bytes[..within(to, bytes)];
+    front.get(from..).unwrap_or_default()
+}
+
 // Whether a carriage return that another byte than a line's end follows stands before a place, from another place on.
+#[tactic(auto, using(crate::proofs::Laws::with_byte, crate::proofs::Laws::none_left))]
 pub fn has_lone_return(bytes: &[u8], from: usize, to: usize) -> bool
     ensures { result ≡ lone_return false (drop from (take to bytes.now)) }
 {
-    let stop = within(to, bytes);
     let mut after = false;
-    let mut i = from;
-    while i < stop {
-        if after & (bytes[i] != b'\n') {
+    for byte in between(bytes, from, to) {
+        if after & (*byte != b'\n') {
             return true;
         }
-        after = bytes[i] == b'\r';
-        i += 1;
+        after = *byte == b'\r';
     }
     false
 }
 
-// What the operation's end, at a place, has to do with its count. `returned`: a carriage return stands alone before it.
-fn say_end(program: Program, bytes: &[u8], returned: bool, at: usize, code: u64, count: u64) {
+// What the operation's end has to do with its count: it stands in front of a text. `returned`: a carriage return stands
+// alone before it.
+fn say_end(program: Program, text: &[u8], returned: bool, code: u64, count: u64) {
     if returned {
         program.say(b"; a carriage return alone ends no line");
-        return;
-    }
-    if at < bytes.len() {
-        if (bytes[at] == b'\n') & (count < field_count(code) + 2) {
-            program.say(b"; an operation ends with its line");
-        }
+    } else if text.starts_with(b"\n") & (count < field_count(code) + 2) {
+        program.say(b"; an operation ends with its line");
     }
 }
 
-// What is wrong with the text at a place.
-fn say_problem(program: Program, bytes: &[u8], returned: bool, at: usize, problem: Problem)
-    requires { at ≤ length bytes.now }
-{
+// What is wrong with the word in front of a text, or with the operation that ends there.
+fn say_problem(program: Program, text: &[u8], returned: bool, problem: Problem) {
     match problem {
-        Problem::NoNumber => say_no_number(program, bytes, at),
+        Problem::NoNumber => say_no_number(program, text),
         Problem::TooLarge => {
-            say_word(program, bytes, at);
+            say_word(program, text);
             program.say(b" is above 2^64 - 1");
         }
         Problem::Code(code) => {
@@ -196,7 +163,7 @@ fn say_problem(program: Program, bytes: &[u8], returned: bool, at: usize, proble
         }
         Problem::Count(code, count) => {
             say_count(program, code, count);
-            say_end(program, bytes, returned, at, code, count);
+            say_end(program, text, returned, code, count);
         }
     }
 }
@@ -208,8 +175,7 @@ pub fn report(
     spot: Spot,
     bytes: &[u8],
     returned: bool,
-    at: usize,
-    problem: Problem,
+    wrong: Wrong,
 ) {
     say_input(program, name);
     program.say(b": line ");
@@ -219,6 +185,7 @@ pub fn report(
     program.say(b", operation ");
     program.say_number(spot.operation);
     program.say(b": ");
-    say_problem(program, bytes, returned, within(at, bytes), problem);
+    let text = bytes.get(wrong.at..).unwrap_or_default();
+    say_problem(program, text, returned, wrong.problem);
     program.say(b"\n");
 }

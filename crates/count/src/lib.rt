@@ -5,6 +5,7 @@
 ghost use Rattle.std.specs.Prelude.{◌≡◌};
 ghost use Rattle.count.specs.Count.{encoded, decoded, from_to, at_least, refused_with, spread_of};
 
+use answer::Refusal;
 use bits::pick;
 
 // What a CC value says of the count.
@@ -127,7 +128,7 @@ impl Decoded {
         match self {
             Decoded::Known(low, high) => Spread::from_to(low, high),
             Decoded::Exceeded => Spread::at_least(1_048_576),
-            Decoded::Refused => Spread::refused(4),
+            Decoded::Refused => Spread::refused(Refusal::OutsideList.number()),
         }
     }
 }

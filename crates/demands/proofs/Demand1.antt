@@ -9,8 +9,6 @@ use native.Mathlib.Decide.{ℕ_discrete}
 use lib.Dec.{eqb}
 use lib.ListN.{length}
 use Rattle.state.specs.declared.State.{State}
-use Rattle.state.specs.declared.Loaded.{Loaded}
-use Rattle.state.specs.declared.Loaded.TheVariants.{Held, Unsound}
 use Rattle.state.specs.Words.{loaded}
 use Rattle.state.proofs.Laws.{kept}
 use Rattle.answer.specs.declared.Answer.{Answer}
@@ -24,13 +22,15 @@ use Rattle.operation.specs.Refusal.{first_that, table, refusal_of}
 use Rattle.change.specs.Change.{answer_of}
 use Rattle.recorder.specs.Step.{accepted, refused, step_of}
 use Rattle.recorder.proofs.Laws.{accepted_step, refused_step}
-use Rattle.recording.specs.declared.Reading.{Reading}
+use Rattle.recording.specs.Recording.{Reading}
 use Rattle.recording.specs.Recording.{operation_at}
 use Rattle.recorder.specs.Lent.{lent_step}
 use Rattle.brb.specs.Face.{step_result}
 use Rattle.brb.specs.Recordings.{recorded_result}
 use Rattle.demands.specs.Unchanged.{unchanged, unchanged_recorded}
 use Rattle.demands.specs.First.{First, here, later, none, Accepted, done, undefined, trap2, trap3, AnswersBy, refuses, accepts}
+use Rattle.std.proofs.Common.{Some, None, Option}
+use Rattle.std.proofs.Common.{Ok, Err}
 
 -- ---- refusal_exact: the number is that of the first line of the table whose condition holds, and 0 if none does
 
@@ -120,10 +120,10 @@ pub refused_changes_nothing : (words room : List ℕ) (code cycles a b c d : ℕ
 unfolding step_result lent_step
 refused_changes_nothing words room code cycles a b c d l u = go (loaded words) refl
   where
-    go : (found : Loaded) → loaded words ≡ found
+    go : (found : Option State) → loaded words ≡ found
         → step_result words code cycles a b c d room ≡ unchanged words room (step_result words code cycles a b c d room)
-    go Unsound e = rw e
-    go (Held s) e =
+    go None e = rw e
+    go (Some s) e =
         rw (e, refusal_answered s (operation_of code a b c d) cycles room (rw e at l) (rw e at u), kept words s e)
 
 -- The same of a recorded step.
@@ -133,13 +133,13 @@ pub refused_recorded : (words room bytes : List ℕ) (at : ℕ) → 1 ≤ (recor
 unfolding recorded_result
 refused_recorded words room bytes at l u = go (loaded words) refl
   where
-    read : (s : State) → loaded words ≡ Held s → (found : Reading) → operation_at bytes at ≡ found
+    read : (s : State) → loaded words ≡ Some s → (found : Reading) → operation_at bytes at ≡ found
         → recorded_result words room bytes at ≡ unchanged_recorded words room (recorded_result words room bytes at)
-    read s e (Reading.Operation x next) f =
+    read s e (Ok (x, next)) f =
         rw (e, f, refusal_answered s (operation_of x.code x.a x.b x.c x.d) x.cycles room (rw (e, f) at l) (rw (e, f) at u), kept words s e)
-    read s e (Reading.Refused number place) f = rw (e, f, kept words s e)
+    read s e (Err d) f = rw (e, f, kept words s e)
 
-    go : (found : Loaded) → loaded words ≡ found
+    go : (found : Option State) → loaded words ≡ found
         → recorded_result words room bytes at ≡ unchanged_recorded words room (recorded_result words room bytes at)
-    go Unsound e = rw e
-    go (Held s) e = read s e (operation_at bytes at) refl
+    go None e = rw e
+    go (Some s) e = read s e (operation_at bytes at) refl

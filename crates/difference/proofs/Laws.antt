@@ -1,26 +1,31 @@
--- Nothing as a part of a text, and how long the names of what differs are.
-use Prim.Native.Nat.{ℕ, ◌+◌, ◌≤◌}
+-- The names of what differs, one behind another, and how long they are.
+use Prim.Native.Nat.{ℕ, ◌+◌, ◌/◌, ◌%◌, ◌≤◌, ◌<◌}
 use Prim.Native.String.{String}
 use native.Mathlib.Omega.{arith}
 use mathlib.Core.Bool.{Bool, true, false, ◌||◌}
-use mathlib.Core.List.{List, [], ◌++◌}
-use lib.ListN.{length, length-append}
+use mathlib.Core.List.{List, [], ◌∷◌}
+use lib.ListN.{length, drop, get_or, length-append}
+use Rattle.std.proofs.Common.{Bor, nat_eq}
+use Rattle.std.proofs.lemmas.List.{drop_more}
 use Rattle.bits.specs.Bits.{is_set}
+use Rattle.buffer.specs.Buffer.{Put}
+use Rattle.buffer.proofs.Laws.{and_part}
 use Rattle.text.specs.Text.{bytes_of_text}
-use Rattle.notation.specs.Text.{spaced}
-use Rattle.readable.specs.Readable.{Put}
-use Rattle.readable.proofs.Laws.{no_part, and_part, length-entry}
-use Rattle.difference.specs.Difference.{piece, names, named, names_by_code, differing_names}
+use Rattle.readable.proofs.Laws.{length-entry}
+use Rattle.difference.specs.Difference.{piece, joined, names, named, names_by_code, differing_names}
 
-pub nothing : (out : List ℕ) (at : ℕ) → Put out at [] at out
-unfolding spaced
-nothing out at = no_part out at
+-- The fields' names, and whether each is told.
+abbrev pub told_of : ℕ → List (ℕ × Bor (List ℕ)) → List (Bool × List ℕ)
+told_of d [] = []
+told_of d ((weight, name) ∷ fields) = (nat_eq (d / weight % 2) 1, name.now) ∷ told_of d fields
 
--- Nothing behind a part.
-pub and_nothing : {out after xs : List ℕ} {at p : ℕ} → Put out at xs p after → Put out at (xs ++ []) p after
-and_nothing {after = after} {xs = xs} {p = p} put = and_part put (nothing after p)
-
--- ---- lengths
+-- A field's name in front of the names behind it.
+pub next_field : {out between after : List ℕ} (d : ℕ) (fields : List (ℕ × Bor (List ℕ))) (i : ℕ) (other : ℕ × Bor (List ℕ)) (begun : Bool)
+    → i < length fields
+    → Put out (piece begun (nat_eq (d / (get_or fields i other).0 % 2) 1) (get_or fields i other).1.now) between
+    → Put between (joined (begun || nat_eq (d / (get_or fields i other).0 % 2) 1) (told_of d (drop (i + 1) fields))) after
+    → Put out (joined begun (told_of d (drop i fields))) after
+next_field d fields i other begun h first rest = rw (drop_more fields i other h) (and_part first rest)
 
 short_piece : (begun told : Bool) (name : List ℕ) → length (piece begun told name) ≤ length name + 2
 short_piece begun false name = omega arith

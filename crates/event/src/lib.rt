@@ -7,7 +7,7 @@ ghost use Rattle.state.specs.Named.{el3_recording_enabled};
 ghost use Rattle.event.specs.Event.{controlled, count_unknown, packed};
 ghost use Rattle.event.specs.Hidden.{valid_by, MPREDBy, BRBINFBy, record_by, becomes_by};
 
-use bits::{pick, pick_bool};
+use bits::pick;
 use count::encode;
 use room::Record;
 use state::{Running, State};
@@ -48,8 +48,8 @@ fn by_level(s: State, level: u64, in1: bool, in2: bool) -> bool
     ensures { result ≡ cond (eqb level 3) (el3_recording_enabled s) (cond (eqb level 2) in2 in1) }
 {
     let el3 = s.el3_recording_enabled();
-    let below3 = pick_bool(level == 2, in2, in1);
-    pick_bool(level == 3, el3, below3)
+    let below3 = pick(level == 2, in2, in1);
+    pick(level == 3, el3, below3)
 }
 
 // An exception to this level is recorded: the level that it enters controls it.

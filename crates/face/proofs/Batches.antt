@@ -25,8 +25,7 @@ use Rattle.recorder.specs.Result.{Result}
 use Rattle.recorder.specs.Step.{step_of}
 use Rattle.recorder.specs.Lent.{lent_step}
 use Rattle.recording.specs.declared.Numbers.{Numbers}
-use Rattle.recording.specs.declared.Reading.{Reading}
-use Rattle.recording.specs.declared.Reading.TheVariants.{Refused}
+use Rattle.recording.specs.Recording.{Reading}
 use Rattle.recording.specs.Recording.{operation_at}
 use Rattle.recording.specs.Operations.{Holds, ends, reads}
 use Rattle.recording.proofs.Laws.{what_was_read}
@@ -43,6 +42,9 @@ use Rattle.history.proofs.Sound.{sound_kept}
 use Rattle.face.specs.Calls.{Lent, step_call, Called, called_first, calls_along, in_pairs, timed, holding, with_next}
 use Rattle.face.proofs.Refuses.{known_code}
 use Rattle.face.proofs.Runs.{call_left, recorded_call_lem}
+use Rattle.recording.specs.declared.Damage.{Damage}
+use Rattle.answer.specs.Answer.{refusal_number}
+use Rattle.std.proofs.Common.{Ok, Err}
 
 -- ---- behind an operation that was read, a host reads on
 
@@ -88,7 +90,7 @@ module _ (words : List ℕ) (enough : state_numbers ≤ length words) (bytes : L
   same_answer m n h = rw (loaded-stored m.state words enough h)
 
   found : (k : ℕ) (m : Machine) (at : ℕ) (n : Numbers) (next : ℕ) → sound m.state ≡ true → at < length bytes
-      → operation_at bytes at ≡ Reading.Operation n next
+      → operation_at bytes at ≡ Ok (n, next)
       → Along k (stepped m (timed n)) next
       → Along (suc k) m at
   unfolding calls_along read_from steps step_result
@@ -102,12 +104,12 @@ module _ (words : List ℕ) (enough : state_numbers ≤ length words) (bytes : L
       (ap (called_first (with_next next (step_call (holding words m) n)).answer) behind)
 
   -- The call that finds none is the last.
-  stops : (k : ℕ) (m : Machine) (at number place : ℕ) → sound m.state ≡ true → at < length bytes
-      → operation_at bytes at ≡ Refused number place
-      → one_of (7 ∷ 1 ∷ 2 ∷ []) number ≡ true
+  stops : (k : ℕ) (m : Machine) (at : ℕ) (d : Damage) → sound m.state ≡ true → at < length bytes
+      → operation_at bytes at ≡ Err d
+      → one_of (7 ∷ 1 ∷ 2 ∷ []) (refusal_number d.refusal) ≡ true
       → Along (suc k) m at
   unfolding calls_along read_from steps recorded_result
-  stops k m at number place h l e stop =
+  stops k m at d h l e stop =
       rw (lt-leb (length bytes) at l, loaded-stored m.state words enough h, e, stop, stored_again m.state m.state words)
 
   along : (k : ℕ) (m : Machine) (at : ℕ) → sound m.state ≡ true → Along k m at
@@ -120,10 +122,10 @@ module _ (words : List ℕ) (enough : state_numbers ≤ length words) (bytes : L
       go : at < length bytes → ((next : Machine) (place : ℕ) → sound next.state ≡ true → Along k next place) → (r : Reading)
           → operation_at bytes at ≡ r
           → Along (suc k) m at
-      go l rest (Reading.Operation n next) e = found k m at n next h l e (rest (stepped m (timed n)) next (sound_kept m (timed n) h))
-      go l rest (Refused number place) e =
-          stops k m at number place h l e
-          (⊎_elim (λ (one : number ≡ 1). rw one refl) (λ (two : number ≡ 2). rw two refl) (refused_by bytes at number place e))
+      go l rest (Ok (n, next)) e = found k m at n next h l e (rest (stepped m (timed n)) next (sound_kept m (timed n) h))
+      go l rest (Err d) e =
+          stops k m at d h l e
+          (⊎_elim (λ (one : refusal_number d.refusal ≡ 1). rw one refl) (λ (two : refusal_number d.refusal ≡ 2). rw two refl) (refused_by bytes at d e))
 
   -- A batch whose answers have room: what calls of `brb_step_recorded` along the run answer, and the lent memory that they leave.
   pub batch_is_calls : (m : Machine) (answers : List ℕ) → sound m.state ≡ true → 2 * length (readings bytes) ≤ length answers

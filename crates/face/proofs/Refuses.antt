@@ -11,22 +11,19 @@ use lib.ListN.{length, drop}
 use borrow.Author.Tests.{lt-ltb, le-ltb, lt-leb, le-leb}
 use Rattle.bits.proofs.Cases.{either, below_or_not}
 use Rattle.answer.specs.declared.Answer.{Answer}
-use Rattle.answer.specs.Answer.{returned}
+use Rattle.answer.specs.Answer.{refusal_number, returned}
 use Rattle.bits.specs.Bits.{one_of}
 use Rattle.count.specs.declared.Decoded.{Decoded}
 use Rattle.count.specs.declared.Decoded.TheVariants.{Known, Exceeded}
 use Rattle.count.specs.declared.Spread.{Spread}
 use Rattle.count.specs.Count.{exceeded, smallest_of, largest_of, decoded, from_to, at_least, refused_with, spread_of}
 use Rattle.sum.specs.Sum.{low_sum, high_sum, all_listed, all_bounded, largest_number, sum_of, summed}
-use Rattle.number.specs.declared.Found.{Found}
-use Rattle.number.specs.declared.Found.TheVariants.{Value, Malformed, Ended}
+use Rattle.number.specs.Number.{Found}
 use Rattle.number.specs.Number.{number_at, written, written_if}
 use Rattle.state.specs.declared.State.{State}
 use Rattle.state.specs.Named.{sizes}
 use Rattle.state.specs.Parts.{state_numbers, state_of}
 use Rattle.state.specs.Sound.{sound}
-use Rattle.state.specs.declared.Loaded.{Loaded}
-use Rattle.state.specs.declared.Loaded.TheVariants.{Held, Unsound}
 use Rattle.state.specs.Words.{judged, loaded, if_sound}
 use Rattle.room.specs.declared.Record.{Record}
 use Rattle.room.specs.Room.{needed}
@@ -36,9 +33,8 @@ use Rattle.operation.specs.Refusal.{unknown_code, table}
 use Rattle.recorder.specs.Step.{step_of}
 use Rattle.recorder.specs.Lent.{lent_step}
 use Rattle.recording.specs.declared.Numbers.{Numbers}
-use Rattle.recording.specs.declared.Reading.{Reading}
-use Rattle.recording.specs.declared.Reading.TheVariants.{Operation, Refused}
-use Rattle.recording.specs.Recording.{field_count, Several, got, bad, in_front, then_read, numbers_at, numbers_of, operation_at, operation_bytes, writing_of, written_operation}
+use Rattle.recording.specs.Recording.{Reading}
+use Rattle.recording.specs.Recording.{read_as, field_count, Several, in_front, then_read, numbers_at, numbers_of, operation_at, operation_bytes, writing_of, written_operation}
 use Rattle.recording.specs.RecordedStep.{step_of_reading}
 use Rattle.brb.specs.Face.{step_result}
 use Rattle.recording.specs.Run.{readings}
@@ -47,6 +43,11 @@ use Rattle.brb.specs.Recordings.{read_into, of_reading, read_result, recorded_re
 use Rattle.demands.specs.First.{First, here, later, none, AnswersBy, refuses, accepts}
 use Rattle.demands.proofs.Demand1.{step_number}
 use Rattle.face.specs.Lines.{Lines, too_few, batch_lines, step_lines, code_at, values_of, rest_at, reading_lines, recorded_lines, read_lines, write_lines, bank_lines, decode_lines, sum_lines}
+use Rattle.std.proofs.Common.{Some, None, Option}
+use Rattle.std.proofs.Common.{Ok, Err}
+use Rattle.number.specs.declared.Fault.TheVariants.{Malformed, Ended}
+use Rattle.answer.specs.declared.Refusal.TheVariants.{MalformedNumber}
+use Rattle.recording.specs.Recording.{damage}
 
 -- ---- lines one after another
 
@@ -97,8 +98,8 @@ step_answers words room code cycles a b c d = go (judge words)
 
 -- Numbers that are not all there are refused with 1.
 data OneIfBad : Several → Type 0 where
-  all : {list : List ℕ} {next : ℕ} → OneIfBad (got list next)
-  one : {place : ℕ} → OneIfBad (bad 1 place)
+  all : {list : List ℕ} {next : ℕ} → OneIfBad (Ok (list, next))
+  one : {place : ℕ} → OneIfBad (Err (damage MalformedNumber place))
 
 in_front_lem : {x : Several} (n : ℕ) → OneIfBad x → OneIfBad (in_front n x)
 in_front_lem n all = all
@@ -109,15 +110,14 @@ unfolding numbers_at
 several zero bytes at = all
 several (suc k) bytes at = go (several k bytes) (number_at bytes at)
   where
-    go : ((next : ℕ) → OneIfBad (numbers_at k bytes next)) → (found : Found) → OneIfBad (then_read (numbers_at k bytes) at found)
-    go rest (Value n next) = in_front_lem n (rest next)
-    go rest Malformed = one
-    go rest Ended = one
+    go : ((next : ℕ) → OneIfBad (numbers_at k bytes next)) → (found : Found) → OneIfBad (then_read (numbers_at k bytes) (read_as at found))
+    go rest (Ok (n, next)) = in_front_lem n (rest next)
+    go rest (Err fault) = one
 
 -- The number that comes of what was read: the refusal's, or one by the operation.
 abbrev by_reading : (Numbers → ℕ) → Reading → ℕ
-by_reading after (Operation x next) = after x
-by_reading after (Refused number place) = number
+by_reading after (Ok (x, next)) = after x
+by_reading after (Err d) = refusal_number d.refusal
 
 -- Reading answers by its lines, and, where all of them are passed over, by more.
 module _ {R : Lines → ℕ → Type 0} (by : InOrder R) (bytes : List ℕ) (at : ℕ) (more : Lines) (after : Numbers → ℕ)
@@ -125,23 +125,23 @@ module _ {R : Lines → ℕ → Type 0} (by : InOrder R) (bytes : List ℕ) (at 
   abbrev Reads : Type 0
   Reads = R (reading_lines bytes at ++ more) (by_reading after (operation_at bytes at))
 
-  fields : (code next : ℕ) → number_at bytes at ≡ Value code next → code ≤ last_code → (x : Several)
+  fields : (code next : ℕ) → number_at bytes at ≡ Ok (code, next) → code ≤ last_code → (x : Several)
       → numbers_at (suc (field_count code)) bytes next ≡ x → OneIfBad x → Reads
   unfolding operation_at
-  fields code next e h (got list last) f b =
+  fields code next e h (Ok (list, last)) f b =
       rw (e, le-ltb last_code code h, f) (by.pass (by.pass (by.pass (rw (e, f) at (rest (rw e h))))))
-  fields code next e h (bad number place) f one = rw (e, le-ltb last_code code h, f) (by.pass (by.pass by.stop))
+  fields code next e h (Err d) f one = rw (e, le-ltb last_code code h, f) (by.pass (by.pass by.stop))
 
   reading_then : Reads
   unfolding operation_at
   reading_then = go (number_at bytes at) refl
     where
       go : (found : Found) → number_at bytes at ≡ found → Reads
-      go (Value code next) e =
+      go (Ok (code, next)) e =
           ⊎_elim (λ (above : last_code < code). rw (e, lt-ltb last_code code above) (by.pass by.stop))
           (λ (known : code ≤ last_code). fields code next e known _ refl (several (suc (field_count code)) bytes next)) (below_or_not last_code code)
-      go Malformed e = rw e by.stop
-      go Ended e = rw e by.stop
+      go (Err Malformed) e = rw e by.stop
+      go (Err Ended) e = rw e by.stop
 
 -- ---- brb_step_recorded
 
@@ -178,8 +178,8 @@ recorded_answers words room bytes at = go (judge words)
     after x = (returned (step_of s (operation_of x.code x.a x.b x.c x.d) x.cycles room).answer).number
 
     by_reading_lem : (found : Reading) → (returned (step_of_reading s room found).result.answer).number ≡ by_reading after found
-    by_reading_lem (Operation x next) = refl
-    by_reading_lem (Refused number place) = refl
+    by_reading_lem (Ok (x, next)) = refl
+    by_reading_lem (Err d) = refl
 
     stepped : sound s ≡ true → (x : Numbers) → x.code ≤ last_code
         → AnswersBy (drop 2 (table s (operation_of x.code x.a x.b x.c x.d) (length room))) (after x)
@@ -203,8 +203,8 @@ read_answers bytes at place = ⊎_elim (λ (few : length place < 6). rw (lt-ltb 
     (below_or_not (length place) 6)
   where
     by_reading_lem : (found : Reading) → (of_reading place found).answer.number ≡ by_reading (λ x. 0) found
-    by_reading_lem (Operation x next) = refl
-    by_reading_lem (Refused number place) = refl
+    by_reading_lem (Ok (x, next)) = refl
+    by_reading_lem (Err d) = refl
 
 -- Where it refuses, the value is 0 and the place is as it was.
 pub read_refused : (bytes : List ℕ) (at : ℕ) (place : List ℕ) → (read_result bytes at place).answer.number ≢ 0
@@ -216,8 +216,8 @@ read_refused bytes at place = go (ltb (length place) 6) (operation_at bytes at)
         → ((cond t (read_into (returned (Answer.Refused 6)) place) (of_reading place found)).answer.value ≡ 0)
         × ((cond t (read_into (returned (Answer.Refused 6)) place) (of_reading place found)).lent ≡ place)
     go true found h = (refl, refl)
-    go false (Operation x next) h = absurd (h refl)
-    go false (Refused number p) h = (refl, refl)
+    go false (Ok (x, next)) h = absurd (h refl)
+    go false (Err d) h = (refl, refl)
 
 -- ---- brb_batch
 
@@ -229,7 +229,7 @@ batch_answers words room bytes answers = go (judge words) (ltb (length answers) 
   where
     go : Judged words → (t : Bool)
         → First (too_few words ∷ (7, not (sound (state_of words))) ∷ (6, t) ∷ [])
-        (returned (if_sound (cond (leb state_numbers (length words)) (cond (sound (state_of words)) (Held (state_of words)) Unsound) Unsound) (λ s. cond t (batched (Answer.Refused 6) words room answers) (done_all (steps (readings bytes) words room) answers)) (λ n. batched (Answer.Refused n) words room answers)).answer).number
+        (returned (if_sound (cond (leb state_numbers (length words)) (cond (sound (state_of words)) (Some (state_of words)) None) None) (λ s. cond t (batched (Answer.Refused 6) words room answers) (done_all (steps (readings bytes) words room) answers)) (λ n. batched (Answer.Refused n) words room answers)).answer).number
     go (few h) t = rw (lt-ltb (length words) state_numbers h, lt-leb state_numbers (length words) h) here
     go (unsound h e) t = rw (le-ltb (length words) state_numbers h, le-leb state_numbers (length words) h, e) (later here)
     go (holds h e) true = rw (le-ltb (length words) state_numbers h, le-leb state_numbers (length words) h, e) (later (later here))
@@ -241,14 +241,14 @@ pub batch_refused : (words room bytes answers : List ℕ) → (batch_result word
 unfolding batch_result batch_of
 batch_refused words room bytes answers = go (loaded words) (ltb (length answers) (2 * length (readings bytes)))
   where
-    of : Loaded → Bool → Batch Answer
+    of : Option State → Bool → Batch Answer
     of l t = if_sound l (λ s. cond t (batched (Answer.Refused 6) words room answers) (done_all (steps (readings bytes) words room) answers)) (λ n. batched (Answer.Refused n) words room answers)
 
-    go : (l : Loaded) (t : Bool) → (batch_in_numbers (of l t)).answer.number ≢ 0
+    go : (l : Option State) (t : Bool) → (batch_in_numbers (of l t)).answer.number ≢ 0
         → batch_in_numbers (of l t) ≡ batched (record { number = (batch_in_numbers (of l t)).answer.number; value = 0 }) words room answers
-    go (Held s) true h = refl
-    go (Held s) false h = absurd (h refl)
-    go Unsound t h = refl
+    go (Some s) true h = refl
+    go (Some s) false h = absurd (h refl)
+    go None t h = refl
 
 -- ---- brb_recording_write
 

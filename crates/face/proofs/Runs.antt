@@ -7,7 +7,6 @@ use mathlib.Core.List.{List, [], ◌∷◌, map}
 use lib.ListN.{length, replicate}
 use Rattle.answer.specs.Answer.{returned}
 use Rattle.state.specs.declared.State.{State}
-use Rattle.state.specs.declared.Loaded.TheVariants.{Held, Unsound}
 use Rattle.state.specs.Named.{fresh}
 use Rattle.state.specs.Parts.{state_numbers}
 use Rattle.state.specs.Sound.{unavailable, sound}
@@ -24,8 +23,7 @@ use Rattle.recorder.specs.Result.{Result}
 use Rattle.recorder.specs.Step.{accepted, step_of}
 use Rattle.recorder.specs.Lent.{lent_step}
 use Rattle.recording.specs.declared.Numbers.{Numbers}
-use Rattle.recording.specs.declared.Reading.{Reading}
-use Rattle.recording.specs.declared.Reading.TheVariants.{Operation, Refused}
+use Rattle.recording.specs.Recording.{Reading}
 use Rattle.recording.specs.Recording.{numbers, operation_at}
 use Rattle.recording.specs.Operations.{Holds, ends, reads}
 use Rattle.brb.specs.declared.BrbRecorded.{BrbRecorded}
@@ -34,6 +32,8 @@ use Rattle.brb.specs.Recordings.{recorded_result}
 use Rattle.history.specs.History.{Machine, stepped, run, shown}
 use Rattle.history.proofs.Sound.{sound_kept, sound-run}
 use Rattle.face.specs.Calls.{Lent, step_call, recorded_call, left, calls, Position, recorded_calls, calls_through, operations_at, timed, holding, with_next, records_in}
+use Rattle.std.proofs.Common.{Some, None}
+use Rattle.std.proofs.Common.{Ok, Err}
 
 module _ (words : List ℕ) (enough : state_numbers ≤ length words) where
   pub call_left : (m : Machine) (n : Numbers) → sound m.state ≡ true → left (step_call (holding words m) n) ≡ holding words (stepped m (timed n))
@@ -62,7 +62,7 @@ module _ (words : List ℕ) (enough : state_numbers ≤ length words) where
 
   -- A recorded call that finds an operation is the call with that operation's numbers, and answers where reading goes on.
   pub recorded_call_lem : (m : Machine) (bytes : List ℕ) (at : ℕ) (n : Numbers) (next : ℕ) → sound m.state ≡ true
-      → operation_at bytes at ≡ Operation n next
+      → operation_at bytes at ≡ Ok (n, next)
       → recorded_call bytes (holding words m) at ≡ with_next next (step_call (holding words m) n)
   unfolding recorded_result step_result lent_step
   recorded_call_lem m bytes at n next h e = rw (loaded-stored m.state words enough h, e)
@@ -77,10 +77,10 @@ module _ (words : List ℕ) (enough : state_numbers ≤ length words) where
       go : ((next : Machine) → sound next.state ≡ true → recorded_calls (holding words next) list ≡ holding words (run next (map timed (operations_at list))))
           → (found : Reading) → operation_at p.bytes p.at ≡ found
           → recorded_calls (holding words m) (p ∷ list) ≡ holding words (run m (map timed (operations_at (p ∷ list))))
-      go rest (Operation n next) e =
+      go rest (Ok (n, next)) e =
           rw (recorded_call_lem m p.bytes p.at n next h e, call_left m n h, e)
           (rest (stepped m (timed n)) (sound_kept m (timed n) h))
-      go rest (Refused number place) e = rw (loaded-stored m.state words enough h, e, stored_again m.state m.state words) (rest m h)
+      go rest (Err d) e = rw (loaded-stored m.state words enough h, e, stored_again m.state m.state words) (rest m h)
 
   -- As many recorded calls as a recording holds operations, each at the position that the one before answered, are the run of those
   -- operations.
@@ -94,13 +94,13 @@ module _ (words : List ℕ) (enough : state_numbers ≤ length words) where
       ∙ recording_run (stepped m (timed n)) (sound_kept m (timed n) h) rest
 
 -- Lent numbers that hold no sound state are left as they are by every call.
-pub calls_unsound : (x : Lent) (list : List Numbers) → loaded x.words ≡ Unsound → calls x list ≡ x
+pub calls_unsound : (x : Lent) (list : List Numbers) → loaded x.words ≡ None → calls x list ≡ x
 unfolding calls step_result lent_step
 calls_unsound x [] e = refl
 calls_unsound x (n ∷ list) e = rw e (calls_unsound x list e)
 
 -- ... and those that hold one are what `holding` says.
-pub held_lent : (x : Lent) (s : State) → loaded x.words ≡ Held s → x ≡ holding x.words (record { state = s; room = x.room })
+pub held_lent : (x : Lent) (s : State) → loaded x.words ≡ Some s → x ≡ holding x.words (record { state = s; room = x.room })
 held_lent x s e = rw (kept x.words s e)
 
 -- Nine zeros hold the fresh state, so that every sequence of a host that begins with them is a run from it. Closed: a reset, and then a
@@ -108,7 +108,7 @@ held_lent x s e = rw (kept x.words s e)
 abbrev start : Lent
 start = record { words = replicate state_numbers 0; room = replicate 24 0 }
 
-pub closed_calls : (loaded (replicate state_numbers 0) ≡ Held fresh)
+pub closed_calls : (loaded (replicate state_numbers 0) ≡ Some fresh)
     × ((step_call (calls start (numbers 0 0 8 0 0 0 ∷ [])) (numbers 5 3 0 0 0 0)).answer ≡ record { number = 0; value = 0x5008 })
 unfolding loaded judged stored unavailable sound calls step_result lent_step step_of accepted answer_of refusal_of unknown_code not_reset outside_list wrong_halted wrong_level room_too_short changed occasion passed effect_of room_after start_after cleared in_place records read_outcome outcome trapped2 n_bit register_value operation_of prohibited enabled
 closed_calls = (refl, refl)

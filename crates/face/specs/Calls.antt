@@ -9,12 +9,13 @@ use Rattle.room.specs.Room.{records}
 use Rattle.operation.specs.Operation.{operation_of}
 use Rattle.recorder.specs.Result.{Result, together}
 use Rattle.recording.specs.declared.Numbers.{Numbers}
-use Rattle.recording.specs.declared.Reading.{Reading}
+use Rattle.recording.specs.Recording.{Reading}
 use Rattle.recording.specs.Recording.{operation_at}
 use Rattle.brb.specs.declared.BrbRecorded.{BrbRecorded}
 use Rattle.brb.specs.Face.{step_result}
 use Rattle.brb.specs.Recordings.{recorded_result}
 use Rattle.history.specs.History.{Timed, Machine}
+use Rattle.std.specs.Prelude.{Ok, Err}
 
 -- What a host lends: the state's numbers, and the room.
 pub record Lent : Type 0 where
@@ -82,8 +83,8 @@ in_pairs (r ∷ list) = r.number ∷ r.value ∷ in_pairs list
 
 -- What was read, in front of some operations: nothing where reading was refused.
 abbrev pub with_read : Reading → List Numbers → List Numbers
-with_read (Reading.Operation n next) list = n ∷ list
-with_read (Reading.Refused number place) list = list
+with_read (Ok (n, next)) list = n ∷ list
+with_read (Err d) list = list
 
 -- The operations that stand at some positions.
 unfoldable pub operations_at : List Position → List Numbers

@@ -4,9 +4,7 @@ use Rattle.std.specs.Prelude.{ℕ, suc, ◌+◌, ◌*◌, ◌/◌, Bool, true, f
 use Rattle.bits.specs.Bits.{one_of}
 use Rattle.count.specs.Count.{exceeded}
 use Rattle.sum.specs.Sum.{low_sum, high_sum, all_listed, all_bounded, largest_number}
-use Rattle.number.specs.declared.Found.{Found}
-use Rattle.number.specs.declared.Found.TheVariants.{Value, Malformed, Ended}
-use Rattle.number.specs.Number.{number_at}
+use Rattle.number.specs.Number.{Found, number_at}
 use Rattle.state.specs.Named.{sizes}
 use Rattle.state.specs.Parts.{state_numbers, state_of}
 use Rattle.state.specs.Sound.{sound}
@@ -15,8 +13,9 @@ use Rattle.operation.specs.declared.Operation.{Operation}
 use Rattle.operation.specs.Operation.{last_code, operation_of}
 use Rattle.operation.specs.Refusal.{table}
 use Rattle.recording.specs.declared.Numbers.{Numbers}
-use Rattle.recording.specs.Recording.{field_count, Several, got, bad, numbers_at, numbers_of, operation_bytes}
+use Rattle.recording.specs.Recording.{field_count, Several, numbers_at, numbers_of, operation_bytes}
 use Rattle.recording.specs.Run.{readings}
+use Rattle.std.specs.Prelude.{Ok, Err}
 
 -- Lines, each with its number and its condition.
 abbrev pub Lines : Type 0
@@ -34,31 +33,28 @@ step_lines words o room = too_few words ∷ table (state_of words) o room
 
 -- It is a number.
 abbrev pub is_number : Found → Bool
-is_number (Value n next) = true
-is_number Malformed = false
-is_number Ended = false
+is_number (Ok (n, next)) = true
+is_number (Err fault) = false
 
 -- Its value, or 0 where it is no number.
 abbrev pub value_of : Found → ℕ
-value_of (Value n next) = n
-value_of Malformed = 0
-value_of Ended = 0
+value_of (Ok (n, next)) = n
+value_of (Err fault) = 0
 
 -- The position after it.
 abbrev pub position_after : Found → ℕ
-position_after (Value n next) = next
-position_after Malformed = 0
-position_after Ended = 0
+position_after (Ok (n, next)) = next
+position_after (Err fault) = 0
 
 -- They are all numbers.
 abbrev pub are_numbers : Several → Bool
-are_numbers (got list next) = true
-are_numbers (bad number place) = false
+are_numbers (Ok (list, next)) = true
+are_numbers (Err d) = false
 
 -- Their values.
 abbrev pub values_of : Several → List ℕ
-values_of (got list next) = list
-values_of (bad number place) = []
+values_of (Ok (list, next)) = list
+values_of (Err d) = []
 
 -- The code at a position.
 abbrev pub code_at : List ℕ → ℕ → ℕ

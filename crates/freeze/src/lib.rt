@@ -5,7 +5,7 @@ ghost use Rattle.std.specs.Prelude.{◌≡◌};
 ghost use Rattle.freeze.specs.Freeze.{freezes, difference, time, overflowed};
 ghost use Rattle.freeze.specs.Freeze as freeze;
 
-use bits::{pick, pick_bool};
+use bits::pick;
 use region::prohibited;
 use state::State;
 
@@ -25,7 +25,7 @@ const PHYSICAL: u64 = 3;
 fn controlled(s: State, group: u64) -> bool
     ensures { result ≡ freeze.FZP s group }
 {
-    pick_bool(group == 0, s.brbcr1 / FZP % 2 == 1, s.brbcr2 / FZP % 2 == 1)
+    pick(group == 0, s.brbcr1 / FZP % 2 == 1, s.brbcr2 / FZP % 2 == 1)
 }
 
 // An overflow of a counter of the group freezes.

@@ -1,9 +1,10 @@
 -- An input that comes in pieces through a buffer: what of it was read, and one operation of it. docs/MANUAL.md, "Programs".
 use Rattle.std.specs.Prelude.{ℕ, ◌+◌, ◌-◌, ◌%◌, ◌^◌, min, Bool, true, false, cond, not, ◌&&◌, ◌==◌, nat_lt}
 use Rattle.recording.specs.declared.Passage.{Passage}
-use Rattle.recording.specs.declared.Reading.{Reading}
-use Rattle.recording.specs.declared.Reading.TheVariants.{Operation, Refused}
+use Rattle.recording.specs.Recording.{Reading}
 use Rattle.input.specs.declared.Window.{Window}
+use Rattle.answer.specs.Answer.{refusal_number}
+use Rattle.std.specs.Prelude.{Ok, Err}
 
 -- Before the first byte.
 abbrev pub begun : Window
@@ -30,8 +31,8 @@ damaged_at number at w =
 
 -- After what was read.
 abbrev pub after : Reading → Window → Window
-after (Operation x next) w = passed_at next 1 w
-after (Refused number place) w = damaged_at number place w
+after (Ok (x, next)) w = passed_at next 1 w
+after (Err d) w = damaged_at (refusal_number d.refusal) d.at w
 
 -- The byte of the input at which it stands.
 abbrev pub place_of : Window → ℕ

@@ -10,9 +10,9 @@ ghost use Rattle.input.specs.Input.{begun, stopped_at, refilled_at, passed_at, d
 
 use buffer::{ROOM, forward, move_down, within};
 use message::say_unread;
-use number::{Found, number_at};
+use number::{Fault, number_at};
 use program::{Program, Reader};
-use recording::{Passage, Reading, operation_at, pass};
+use recording::{Damage, Numbers, Passage, operation_at, pass};
 use std::io;
 use std::io::Read;
 use std::num::wrapping_add_u64;
@@ -30,7 +30,7 @@ pub fn read_behind(input: &mut Reader, bytes: &mut [u8], left: usize) -> io::Res
 }
 
 // The operation at a place of the bytes up to `end`.
-pub fn reading_at(bytes: &[u8], end: usize, at: usize) -> Reading
+pub fn reading_at(bytes: &[u8], end: usize, at: usize) -> Result<(Numbers, usize), Damage>
     ensures { result ≡ operation_at (take end bytes.now) at }
 {
     let n = within(end, bytes);
@@ -38,7 +38,7 @@ pub fn reading_at(bytes: &[u8], end: usize, at: usize) -> Reading
 }
 
 // The number there.
-pub fn found_at(bytes: &[u8], end: usize, at: usize) -> Found
+pub fn found_at(bytes: &[u8], end: usize, at: usize) -> Result<(u64, usize), Fault>
     ensures { result ≡ number_at (take end bytes.now) at }
 {
     let n = within(end, bytes);
@@ -193,8 +193,8 @@ fn read_over(bytes: &[u8; ROOM], w: Window) -> Window
     ensures { result ≡ after (operation_at (take w.end bytes.now) w.start) w }
 {
     match reading_at(bytes, w.end, w.start) {
-        Reading::Operation(_, next) => w.passed(next, 1),
-        Reading::Refused(number, at) => w.damaged(number, at),
+        Ok((_, next)) => w.passed(next, 1),
+        Err(damage) => w.damaged(damage.refusal.number(), damage.at),
     }
 }
 

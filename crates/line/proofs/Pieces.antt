@@ -12,18 +12,18 @@ use lib.Seq.{drop-append-le}
 use borrow.Author.Tests.{le-leb, lt-leb}
 use Rattle.bits.proofs.Cases.{never, either, below_or_not}
 use Rattle.state.specs.declared.State.{State}
-use Rattle.state.specs.declared.Loaded.{Loaded}
-use Rattle.state.specs.declared.Loaded.TheVariants.{Held, Unsound}
 use Rattle.state.specs.Named.{fresh}
 use Rattle.state.specs.Words.{judged, if_sound}
 use Rattle.recorder.specs.Step.{refused}
-use Rattle.recording.specs.declared.Reading.{Reading}
-use Rattle.recording.specs.declared.Reading.TheVariants.{Operation, Refused}
+use Rattle.recording.specs.Recording.{Reading}
 use Rattle.recording.specs.Recording.{operation_at}
 use Rattle.recording.specs.RecordedStep.{Recorded, step_of_reading, recorded_step, stops_reading}
 use Rattle.recording.proofs.Window.{moved_reading, operation_moved, end_moved, operation_window, operation_reach, refused_by}
 use Rattle.line.specs.Line.{line_of, replay_from, replay_of}
 use Rattle.line.specs.Pieces.{Enough, Turns, brings, replays, stops, ends, turn_count}
+use Rattle.answer.specs.Answer.{refusal_number}
+use Rattle.std.proofs.Common.{Some, None, Option}
+use Rattle.std.proofs.Common.{Ok, Err}
 
 -- ---- one operation of the input, seen through the unread bytes
 
@@ -31,18 +31,18 @@ abbrev pub moved_step : ℕ → Recorded → Recorded
 moved_step d r = record { result = r.result; next = d + r.next }
 
 read_moved : (s : State) (room : List ℕ) (d : ℕ) (r : Reading) → step_of_reading s room (moved_reading d r) ≡ moved_step d (step_of_reading s room r)
-read_moved s room d (Operation x next) = refl
-read_moved s room d (Refused number place) = refl
+read_moved s room d (Ok (x, next)) = refl
+read_moved s room d (Err b) = refl
 
 -- The bytes before a place only move it.
 pub step_moved : (s : State) (room bytes : List ℕ) (d at : ℕ) → recorded_step s room bytes (d + at) ≡ moved_step d (recorded_step s room (drop d bytes) at)
 unfolding recorded_step
 step_moved s room bytes d at = go (judged s)
   where
-    go : (l : Loaded) → if_sound l (λ x. step_of_reading x room (operation_at bytes (d + at))) (λ n. record { result = refused n s room; next = d + at })
+    go : (l : Option State) → if_sound l (λ x. step_of_reading x room (operation_at bytes (d + at))) (λ n. record { result = refused n s room; next = d + at })
         ≡ moved_step d (if_sound l (λ x. step_of_reading x room (operation_at (drop d bytes) at)) (λ n. record { result = refused n s room; next = at }))
-    go (Held x) = rw (operation_moved bytes d at) (read_moved x room d (operation_at (drop d bytes) at))
-    go Unsound = refl
+    go (Some x) = rw (operation_moved bytes d at) (read_moved x room d (operation_at (drop d bytes) at))
+    go None = refl
 
 -- What is still to come is not looked at.
 step_window : (s : State) (room unread input : List ℕ) → Enough unread input → recorded_step s room (unread ++ input) 0 ≡ recorded_step s room unread 0
@@ -60,16 +60,16 @@ goes_on s room bytes at h = go (judged s)
   where
     read : (x : State) (r : Reading) → operation_at bytes at ≡ r → stops_reading (step_of_reading x room r).result.answer ≡ false
         → (at < (step_of_reading x room r).next) × ((step_of_reading x room r).next ≤ length bytes)
-    read x (Operation n next) e g = let (further, within) = operation_reach bytes at n next h e in (omega arith, within)
-    read x (Refused number place) e g =
-        ⊎_elim (λ (one : number ≡ 1). never (cc (rw one at g))) (λ (two : number ≡ 2). never (cc (rw two at g))) (refused_by bytes at number place e)
+    read x (Ok (n, next)) e g = let (further, within) = operation_reach bytes at n next h e in (omega arith, within)
+    read x (Err d) e g =
+        ⊎_elim (λ (one : refusal_number d.refusal ≡ 1). never (cc (rw one at g))) (λ (two : refusal_number d.refusal ≡ 2). never (cc (rw two at g))) (refused_by bytes at d e)
 
-    go : (l : Loaded)
+    go : (l : Option State)
         → stops_reading (if_sound l (λ x. step_of_reading x room (operation_at bytes at)) (λ n. record { result = refused n s room; next = at })).result.answer ≡ false
         → (at < (if_sound l (λ x. step_of_reading x room (operation_at bytes at)) (λ n. record { result = refused n s room; next = at })).next)
         × ((if_sound l (λ x. step_of_reading x room (operation_at bytes at)) (λ n. record { result = refused n s room; next = at })).next ≤ length bytes)
-    go (Held x) g = read x (operation_at bytes at) refl g
-    go Unsound g = never (cc)
+    go (Some x) g = read x (operation_at bytes at) refl g
+    go None g = never (cc)
 
 -- ---- the replay, by the bytes that are left
 

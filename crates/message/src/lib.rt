@@ -2,35 +2,28 @@
 // that is lent is changed.
 #![tactic(auto)]
 
-use number::Found;
+mod named;
+
+pub use named::{LONGEST_NAME, Name, NamedInput};
+use number::Fault;
 use operation::LAST_CODE;
 use program::Program;
 use std::io::Error;
 
-// Whether a byte is a control character, which a terminal would obey.
-fn is_control(byte: u8) -> bool {
-    (byte < 32) | (byte == 127)
-}
-
-// A text that somebody else wrote: a question mark stands for each control character.
+// A text that somebody else wrote: a question mark stands for each control character, which a terminal would obey.
 pub fn say_shown(program: Program, text: &[u8]) {
-    let mut i = 0;
-    while i < text.len() {
-        if is_control(text[i]) {
+    for byte in text {
+        if byte.is_ascii_control() {
             program.say(b"?");
         } else {
-            program.say(&text[i..i + 1]);
+            program.say(&[*byte]);
         }
-        i += 1;
     }
 }
 
 // Whether an input's name means standard input.
 fn is_standard(name: &[u8]) -> bool {
-    if name.len() == 0 {
-        return true;
-    }
-    (name.len() == 1) & (name[0] == b'-')
+    matches!(name, [] | [b'-'])
 }
 
 // `PROGRAM: FILE`, of the input that has this name among the arguments.
@@ -52,13 +45,13 @@ pub fn say_unread(program: Program, name: &[u8], error: Error) {
 
 // A byte that a text can begin with: a printed character, a tab or a line's end.
 fn is_text(byte: u64) -> bool {
-    (byte == 9) | (byte == 10) | (byte == 13) | (32 <= byte) & (byte <= 126)
+    matches!(byte, 9 | 10 | 13 | 32..=126)
 }
 
 // What is wrong with a number of a recording: one that can be read is an unknown code.
-fn say_found(program: Program, byte: u64, found: Found) {
+fn say_found(program: Program, byte: u64, found: Result<(u64, usize), Fault>) {
     match found {
-        Found::Value(code, _) => {
+        Ok((code, _)) => {
             program.say(b"a code is at most ");
             program.say_number(LAST_CODE);
             program.say(b", and ");
@@ -68,14 +61,20 @@ fn say_found(program: Program, byte: u64, found: Found) {
                 program.say(b"; the input looks like text, and pack makes a recording of text");
             }
         }
-        Found::Malformed => program.say(b"a malformed number"),
-        Found::Ended => program.say(b"the input ends inside an operation"),
+        Err(Fault::Malformed) => program.say(b"a malformed number"),
+        Err(Fault::Ended) => program.say(b"the input ends inside an operation"),
     }
 }
 
 // Where a recording is damaged, and how: `replay: FILE: byte 50 (the first is 0), operation 12: a malformed number`, where
 // operations are counted from 1.
-pub fn say_damage(program: Program, name: &[u8], byte: u64, operation: u64, found: Found) {
+pub fn say_damage(
+    program: Program,
+    name: &[u8],
+    byte: u64,
+    operation: u64,
+    found: Result<(u64, usize), Fault>,
+) {
     say_input(program, name);
     program.say(b": byte ");
     program.say_number(byte);

@@ -1,20 +1,28 @@
 -- Numbers as text: a digit's value, a number with a digit more, and an operation as its own numbers. docs/MANUAL.md, "Programs".
-use Rattle.std.specs.Prelude.{ℕ, ◌+◌, ◌-◌, ◌*◌, ◌^◌, cond, List, [], ◌∷◌, ◌++◌, ltb}
+use Rattle.std.specs.Prelude.{ℕ, ◌+◌, ◌-◌, ◌*◌, ◌^◌, cond, List, [], ◌∷◌, ◌++◌, ltb, Option, Some, None}
 use Rattle.text.specs.Text.{bytes_of_text, decimal}
 use Rattle.recording.specs.declared.Numbers.{Numbers}
 use Rattle.recording.specs.Recording.{own_numbers}
-use Rattle.notation.specs.declared.Appended.{Appended}
-use Rattle.notation.specs.declared.Appended.TheVariants.{Value, Over}
 
--- The value of a digit 0 to 9, A to F or a to f, and 16 for every other byte.
-abbrev pub digit_value : ℕ → ℕ
+-- The value of a digit 0 to 9, A to F or a to f. Every other byte has none.
+abbrev pub digit_value : ℕ → Option ℕ
 digit_value b =
-    cond (ltb b 48) 16
-    (cond (ltb b 58) (b - 48) (cond (ltb b 65) 16 (cond (ltb b 71) (b - 55) (cond (ltb b 97) 16 (cond (ltb b 103) (b - 87) 16)))))
+    cond (ltb b 48) None
+    (cond (ltb b 58) (Some (b - 48))
+    (cond (ltb b 65) None (cond (ltb b 71) (Some (b - 55)) (cond (ltb b 97) None (cond (ltb b 103) (Some (b - 87)) None)))))
+
+-- A value that is below a base.
+abbrev pub below : ℕ → Option ℕ → Option ℕ
+below base None = None
+below base (Some digit) = cond (ltb digit base) (Some digit) None
+
+-- The value of a digit of a base.
+abbrev pub digit_of : ℕ → ℕ → Option ℕ
+digit_of base b = below base (digit_value b)
 
 -- A number with a digit more in a base, while it is below 2^64.
-abbrev pub appended : ℕ → ℕ → ℕ → Appended
-appended base value digit = cond (ltb (value * base + digit) (2 ^ 64)) (Value (value * base + digit)) Over
+abbrev pub appended : ℕ → ℕ → ℕ → Option ℕ
+appended base value digit = cond (ltb (value * base + digit) (2 ^ 64)) (Some (value * base + digit)) None
 
 -- Numbers in decimal, with a space in front of each.
 unfoldable pub spaced : List ℕ → List ℕ

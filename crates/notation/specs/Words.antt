@@ -1,12 +1,11 @@
 -- Words of a text: what cuts them, and which number a word is. docs/MANUAL.md, "Programs".
-use Rattle.std.specs.Prelude.{ℕ, zero, suc, Bool, true, false, cond, ◌||◌, ◌&&◌, List, [], ◌∷◌, ltb, eqb, get_or, drop}
+use Rattle.std.specs.Prelude.{ℕ, zero, suc, Bool, cond, ◌||◌, ◌&&◌, List, [], ◌∷◌, eqb, get_or, drop, Result, Ok, Err}
+use Rattle.std.specs.Option.{ok_or}
 use Rattle.bits.specs.Bits.{one_of}
 use Rattle.text.specs.Text.{bytes_of_text}
 use Rattle.notation.specs.declared.Problem.{Problem}
 use Rattle.notation.specs.declared.Problem.TheVariants.{NoNumber, TooLarge}
-use Rattle.notation.specs.declared.Appended.{Appended}
-use Rattle.notation.specs.declared.Appended.TheVariants.{Value, Over}
-use Rattle.notation.specs.Text.{digit_value, appended}
+use Rattle.notation.specs.Text.{digit_of, appended}
 
 -- White space inside a line.
 abbrev pub is_blank : ℕ → Bool
@@ -20,35 +19,27 @@ ends_operation b = one_of (bytes_of_text "\n/#") b
 abbrev pub separating : ℕ → Bool
 separating b = is_blank b || ends_operation b
 
--- The word in front of a text: its bytes up to the first that separates words.
-unfoldable pub word_in : List ℕ → List ℕ
-word_in [] = []
-word_in (b ∷ text) = cond (separating b) [] (b ∷ word_in text)
+-- What a word is: a number, or what is wrong with it.
+abbrev pub Meaning : Type 0
+Meaning = Result ℕ Problem
 
--- What a word is.
-pub data Meaning : Type 0 where
-  number : ℕ → Meaning
-  wrong : Problem → Meaning
+-- What follows a value, where nothing is wrong with it.
+abbrev pub onward : (ℕ → Meaning) → Meaning → Meaning
+onward rest (Ok value) = rest value
+onward rest (Err problem) = Err problem
 
--- The rest of a word, behind the value with a digit more.
-abbrev pub onward : (ℕ → Meaning) → Appended → Meaning
-onward rest (Value value) = rest value
-onward rest Over = wrong TooLarge
+-- A value with a digit of a base more.
+abbrev pub with_digit : ℕ → ℕ → ℕ → Meaning
+with_digit base value b = onward (λ digit. ok_or (appended base value digit) TooLarge) (ok_or (digit_of base b) NoNumber)
 
 -- Digits in a base, behind digits that come to the value.
 unfoldable pub digits_of : ℕ → ℕ → List ℕ → Meaning
-digits_of base value [] = number value
-digits_of base value (b ∷ word) =
-    cond (ltb (digit_value b) base) (onward (λ more. digits_of base more word) (appended base value (digit_value b))) (wrong NoNumber)
-
--- The base of a word's digits, which is 16 behind 0x.
-abbrev pub base_of : Bool → ℕ
-base_of true = 16
-base_of false = 10
+digits_of base value [] = Ok value
+digits_of base value (b ∷ word) = onward (λ more. digits_of base more word) (with_digit base value b)
 
 -- What follows 0x: at least a digit.
 abbrev pub prefixed : List ℕ → Meaning
-prefixed [] = wrong NoNumber
+prefixed [] = Err NoNumber
 prefixed (b ∷ word) = digits_of 16 0 (b ∷ word)
 
 -- A word that starts with 0x or 0X.

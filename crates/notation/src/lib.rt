@@ -1,17 +1,18 @@
 // Recordings as text, which `pack` reads: words of digits, cut by white space, and the ends of operations.
 #![tactic(auto)]
 
-ghost use Rattle.std.specs.Prelude.{◌≡◌, cond, [], ◌+◌, ◌-◌, ◌<◌, ◌^◌, min, length, drop, get_or, set};
-ghost use Rattle.notation.specs.Text.{digit_value, appended};
-ghost use Rattle.notation.specs.Words.{is_blank, ends_operation, separating, word_in, base_of, digits_of, prefixed, is_prefixed, meaning_of, whole_words};
+ghost use Rattle.std.specs.Prelude.{◌≡◌, [], ◌+◌, ◌≤◌, ◌^◌, min, length, drop, take, set, ◌<◌, ◌==◌, true, false, MatchOption};
+ghost use Rattle.std.specs.List.{position_or_len, slice_split};
+ghost use Rattle.notation.specs.Text.{digit_of, appended};
+ghost use Rattle.notation.specs.Words.{is_blank, ends_operation, separating, with_digit, digits_of, prefixed, is_prefixed, meaning_of, whole_words};
 ghost use Rattle.notation.specs.Reading.{none_begun, six_of, of_six, added, ended_at, read_from};
-ghost use Rattle.notation.specs.Places.{located, line_length, Follows};
+ghost use Rattle.notation.specs.Places.{line_length, with_one, words_from};
 
 use operation::LAST_CODE;
 use recording::{Numbers, field_count};
 
 // What is wrong with the text.
-#[derive(Clone, Copy)]
+#[derive(Clone, Copy, Debug, PartialEq, Eq)]
 pub enum Problem {
     // A word that is no number.
     NoNumber,
@@ -21,6 +22,13 @@ pub enum Problem {
     Code(u64),
     // An operation of this code has so many numbers, its code among them.
     Count(u64, u64),
+}
+
+// What is wrong, and where: the place of the word, or of the byte that ends the operation.
+#[derive(Clone, Copy, Debug, PartialEq, Eq)]
+pub struct Wrong {
+    pub problem: Problem,
+    pub at: usize,
 }
 
 // An operation that is being read: its numbers so far, and how many they are.
@@ -39,47 +47,20 @@ pub enum Step {
     Operation(Numbers, usize),
     // The place of a byte that ends an operation, with no number before it.
     Nothing(usize),
-    // What is wrong, and where: the place of the word, or of the byte that ends the operation.
-    Wrong(Problem, usize),
-}
-
-// A number with a digit more.
-#[derive(Clone, Copy)]
-pub enum Appended {
-    Value(u64),
-    // It is above 2^64 - 1.
-    Over,
-}
-
-// What a word is.
-#[derive(Clone, Copy)]
-enum Word {
-    // A number, and the place after it.
-    Number(u64, usize),
-    Wrong(Problem),
-}
-
-// What stands at a place.
-#[derive(Clone, Copy)]
-enum Part {
-    // White space or a number: the operation with it, and the place after it.
-    On(Begun, usize),
-    // The operation's end, or a word that is wrong.
-    Done(Step),
 }
 
 // White space inside a line.
 fn is_blank(byte: u8) -> bool
     ensures { result ≡ is_blank byte }
 {
-    (byte == b'\r') | (byte == b'\t') | (byte == b' ')
+    matches!(byte, b' ' | b'\t' | b'\r')
 }
 
 // What ends an operation: a line's end, a / and the # of a comment.
 fn ends_operation(byte: u8) -> bool
     ensures { result ≡ ends_operation byte }
 {
-    (byte == b'#') | (byte == b'/') | (byte == b'\n')
+    matches!(byte, b'\n' | b'/' | b'#')
 }
 
 // What no word holds.
@@ -89,137 +70,70 @@ pub fn separates(byte: u8) -> bool
     is_blank(byte) | ends_operation(byte)
 }
 
-// The value of a digit, hexadecimal ones among them, or 16 where the byte is none.
-fn digit_value(byte: u8) -> u64
-    ensures { result ≡ digit_value byte }
+// The value of a digit of a base, hexadecimal ones among them.
+fn digit_of<const BASE: u32>(byte: u8) -> Option<u64>
+    requires { (2 ≤ BASE) × (BASE ≤ 16) }
+    ensures { result ≡ digit_of BASE byte }
 {
-    if byte < 48 {
-        return 16;
-    }
-    if byte < 58 {
-        return byte as u64 - 48;
-    }
-    if byte < 65 {
-        return 16;
-    }
-    if byte < 71 {
-        return byte as u64 - 55;
-    }
-    if byte < 97 {
-        return 16;
-    }
-    if byte < 103 {
-        return byte as u64 - 87;
-    }
-    16
+    char::from(byte).to_digit(BASE).map(u64::from)
 }
 
-// Whether the sum stays below 2^64 is asked before it is made.
-fn decimal_appended(value: u64, digit: u64) -> Appended
-    ensures { result ≡ appended 10 value digit }
+// A number with a digit more, while it is below 2^64.
+fn appended<const BASE: u32>(value: u64, digit: u64) -> Option<u64>
+    requires { BASE ≤ 16 }
+    ensures { result ≡ appended BASE value digit }
 {
-    if (u64::MAX - digit) / 10 < value {
-        return Appended::Over;
-    }
-    Appended::Value(value * 10 + digit)
+    value.checked_mul(u64::from(BASE))?.checked_add(digit)
 }
 
-fn hexadecimal_appended(value: u64, digit: u64) -> Appended
-    ensures { result ≡ appended 16 value digit }
+// A value with a digit of a base more.
+fn with_digit<const BASE: u32>(value: u64, byte: u8) -> Result<u64, Problem>
+    requires { (2 ≤ BASE) × (BASE ≤ 16) }
+    ensures { result ≡ with_digit BASE value byte }
 {
-    if (u64::MAX - digit) / 16 < value {
-        return Appended::Over;
-    }
-    Appended::Value(value * 16 + digit)
+    let digit = digit_of::<BASE>(byte).ok_or(Problem::NoNumber)?;
+    appended::<BASE>(value, digit).ok_or(Problem::TooLarge)
 }
 
-// A number whose digits end at a byte that is none: it has to end the word.
-fn number_before(byte: u8, value: u64, at: usize) -> Word
-    ensures { result ≡ cond (separating byte) (Word.Number value at) (Word.Wrong Problem.NoNumber) }
+// The number that digits of a base come to. The base is a constant, so that each instance divides by a constant.
+#[tactic(auto, using(crate::proofs::Words::digits_end, crate::proofs::Words::digit_wrong, crate::proofs::Words::digit_passed))]
+fn digits_of<const BASE: u32>(word: &[u8]) -> Result<u64, Problem>
+    requires { (2 ≤ BASE) × (BASE ≤ 16) }
+    ensures { result ≡ digits_of BASE 0 word.now }
 {
-    if separates(byte) {
-        return Word::Number(value, at);
-    }
-    Word::Wrong(Problem::NoNumber)
-}
-
-fn base_of(hexadecimal: bool) -> u64
-    ensures { result ≡ base_of hexadecimal }
-{
-    if hexadecimal { 16 } else { 10 }
-}
-
-// The two bases are told apart here, so that each divides by a constant.
-fn appended_in(hexadecimal: bool, value: u64, digit: u64) -> Appended
-    ensures { result ≡ appended (base_of hexadecimal) value digit }
-{
-    if hexadecimal {
-        return hexadecimal_appended(value, digit);
-    }
-    decimal_appended(value, digit)
-}
-
-fn digits_at(bytes: &[u8], at: usize, hexadecimal: bool) -> Word
-    ensures { result ≡ located (drop at bytes.now) at (digits_of (base_of hexadecimal) 0 (word_in (drop at bytes.now))) }
-{
-    let base = base_of(hexadecimal);
     let mut value = 0;
-    let mut i = at;
-    while i < bytes.len() {
-        let digit = digit_value(bytes[i]);
-        if base <= digit {
-            return number_before(bytes[i], value, i);
-        }
-        let Appended::Value(more) = appended_in(hexadecimal, value, digit) else {
-            return Word::Wrong(Problem::TooLarge);
-        };
-        value = more;
-        i += 1;
+    for byte in word {
+        value = with_digit::<BASE>(value, *byte)?;
     }
-    Word::Number(value, i)
+    Ok(value)
 }
 
 // What follows 0x: at least a digit.
-fn prefixed_at(bytes: &[u8], at: usize) -> Word
-    ensures { result ≡ located (drop at bytes.now) at (prefixed (word_in (drop at bytes.now))) }
+fn prefixed(digits: &[u8]) -> Result<u64, Problem>
+    ensures { result ≡ prefixed digits.now }
 {
-    if bytes.len() <= at {
-        return Word::Wrong(Problem::NoNumber);
+    if digits.is_empty() {
+        return Err(Problem::NoNumber);
     }
-    if separates(bytes[at]) {
-        return Word::Wrong(Problem::NoNumber);
-    }
-    digits_at(bytes, at, true)
+    digits_of::<16>(digits)
 }
 
-// Whether 0x or 0X stands at a place.
-fn is_prefix(bytes: &[u8], at: usize) -> bool
-    ensures { result ≡ is_prefixed (word_in (drop at bytes.now)) }
+// What is behind 0x or 0X, where a word starts with it.
+fn hexadecimal(word: &[u8]) -> Option<&[u8]>
+    ensures { MatchOption result (is_prefixed word.now ≡ false) (λ digits. (is_prefixed word.now ≡ true) × (digits.now ≡ drop 2 word.now)) }
 {
-    if bytes.len() <= at {
-        return false;
-    }
-    if bytes.len() - at < 2 {
-        return false;
-    }
-    (bytes[at] == b'0') & ((bytes[at + 1] == b'X') | (bytes[at + 1] == b'x'))
+    word.strip_prefix(b"0x").or(word.strip_prefix(b"0X"))
 }
 
-// The word at a place.
-fn word_at(bytes: &[u8], at: usize) -> Word
-    ensures { result ≡ located (drop at bytes.now) at (meaning_of (word_in (drop at bytes.now))) }
+// What a word is: a number in hexadecimal, behind 0x, or in decimal.
+#[tactic(auto, unfolding(crate::specs::Words::meaning_of))]
+fn meaning_of(word: &[u8]) -> Result<u64, Problem>
+    ensures { result ≡ meaning_of word.now }
 {
-    if is_prefix(bytes, at) {
-        return prefixed_at(bytes, at + 2);
+    match hexadecimal(word) {
+        Some(digits) => prefixed(digits),
+        None => digits_of::<10>(word),
     }
-    digits_at(bytes, at, false)
-}
-
-// One more, and no wrap: no text is so long that this stands still.
-fn one_more(n: u64) -> u64
-    ensures { result ≡ min (n + 1) (2 ^ 64 - 1) }
-{
-    if n < u64::MAX { n + 1 } else { n }
 }
 
 // Before the first number of an operation.
@@ -234,118 +148,123 @@ pub fn none_begun() -> Begun
 fn with_number(x: Numbers, i: u64, n: u64) -> Numbers
     ensures { result ≡ of_six (set (six_of x) i n) }
 {
-    let mut y = x;
-    match i {
-        0 => {
-            y.code = n;
-        }
-        1 => {
-            y.cycles = n;
-        }
-        2 => {
-            y.a = n;
-        }
-        3 => {
-            y.b = n;
-        }
-        4 => {
-            y.c = n;
-        }
-        5 => {
-            y.d = n;
-        }
-        _ => {}
+    let mut list = [x.code, x.cycles, x.a, x.b, x.c, x.d];
+    if i < 6 {
+        list[i as usize] = n;
     }
-    y
+    let [code, cycles, a, b, c, d] = list;
+    Numbers::new(code, cycles, a, b, c, d)
 }
 
-// With a number more.
+// With a number more. No text is so long that the count stands still.
+#[tactic(auto, unfolding(crate::specs::Reading::added))]
 fn added(begun: Begun, n: u64) -> Begun
     ensures { result ≡ added begun n }
 {
     let numbers = with_number(begun.numbers, begun.count, n);
     Begun {
         numbers,
-        count: one_more(begun.count),
+        count: begun.count.saturating_add(1),
     }
 }
 
 // An operation that ends at a place: the text's end is one, too.
-pub fn ended(begun: Begun, at: usize) -> Step
+#[tactic(auto, unfolding(crate::specs::Reading::ended_at))]
+pub fn ended(begun: Begun, at: usize) -> Result<Step, Wrong>
     ensures { result ≡ ended_at begun at }
 {
     let numbers = begun.numbers;
     if begun.count == 0 {
-        return Step::Nothing(at);
+        return Ok(Step::Nothing(at));
     }
     if LAST_CODE < numbers.code {
-        return Step::Wrong(Problem::Code(numbers.code), at);
+        let problem = Problem::Code(numbers.code);
+        return Err(Wrong { problem, at });
     }
     if begun.count != field_count(numbers.code) + 2 {
-        return Step::Wrong(Problem::Count(numbers.code, begun.count), at);
+        let problem = Problem::Count(numbers.code, begun.count);
+        return Err(Wrong { problem, at });
     }
-    Step::Operation(numbers, at)
+    Ok(Step::Operation(numbers, at))
 }
 
-// What stands next: white space, the operation's end, or a word.
-fn part_at(bytes: &[u8], at: usize, begun: Begun) -> Part
-    requires { at < length bytes.now }
-    ensures { Follows bytes.now at begun result }
+// The bytes from a place on.
+fn from_place(bytes: &[u8], at: usize) -> &[u8]
+    ensures { result.now ≡ drop at bytes.now }
 {
-    let byte = bytes[at];
-    if is_blank(byte) {
-        return Part::On(begun, at + 1);
+    bytes.get(at..).unwrap_or_default()
+}
+
+// How many bytes stand before the first that ends an operation.
+fn operation_length(text: &[u8]) -> usize
+    ensures { result ≡ position_or_len ends_operation text.now }
+{
+    text.iter()
+        .take_while(|byte| !ends_operation(**byte))
+        .count()
+}
+
+// With a word more, which starts at a place and may have no bytes.
+fn word_read(word: &[u8], at: usize, begun: Begun) -> Result<Begun, Wrong>
+    ensures { result ≡ with_one begun word.now at }
+{
+    if word.is_empty() {
+        return Ok(begun);
     }
-    if ends_operation(byte) {
-        return Part::Done(ended(begun, at));
+    match meaning_of(word) {
+        Ok(n) => Ok(added(begun, n)),
+        Err(problem) => Err(Wrong { problem, at }),
     }
-    match word_at(bytes, at) {
-        Word::Number(n, next) => Part::On(added(begun, n), next),
-        Word::Wrong(problem) => Part::Done(Step::Wrong(problem, at)),
+}
+
+// With the words of a part of an operation that starts at a place. White space is between them.
+fn words_read(part: &[u8], at: usize, begun: Begun) -> Result<Begun, Wrong>
+    requires { at + length part.now < 2 ^ 64 }
+    ensures { result ≡ words_from begun (slice_split is_blank part.now) at }
+{
+    let mut so_far = begun;
+    let mut passed = 0;
+    for word in part.split(|byte| is_blank(*byte)) {
+        so_far = word_read(word, at + passed, so_far)?;
+        passed += word.len() + 1;
     }
+    Ok(so_far)
 }
 
 // Reads on from a place, which is no word's middle, to the operation's end. The bytes' end is the end of a word.
-pub fn read_on(bytes: &[u8], at: usize, begun: Begun) -> Step
+pub fn read_on(bytes: &[u8], at: usize, begun: Begun) -> Result<Step, Wrong>
     ensures { result ≡ read_from begun [] (drop at bytes.now) at }
 {
-    let mut so_far = begun;
-    let mut i = at;
-    while i < bytes.len() {
-        match part_at(bytes, i, so_far) {
-            Part::On(more, next) => {
-                so_far = more;
-                i = next;
-            }
-            Part::Done(step) => {
-                return step;
-            }
-        }
+    let text = from_place(bytes, at);
+    let n = operation_length(text);
+    let more = words_read(&text[..n], at, begun)?;
+    if n < text.len() {
+        return ended(more, at + n);
     }
-    Step::More(so_far)
+    Ok(Step::More(more))
+}
+
+// How many bytes stand before the first line's end.
+fn line_length(text: &[u8]) -> usize
+    ensures value { result ≡ position_or_len (λ b. b == 10) text.now }
+    ensures within { result ≤ length text.now }
+{
+    text.iter().take_while(|byte| **byte != b'\n').count()
 }
 
 // The place of the line's end, from a place on, or the bytes' end: a comment ends there.
 pub fn line_end(bytes: &[u8], at: usize) -> usize
     ensures { result ≡ at + line_length (drop at bytes.now) }
 {
-    let mut i = at;
-    while i < bytes.len() && bytes[i] != b'\n' {
-        i += 1;
-    }
-    i
+    at + line_length(from_place(bytes, at))
 }
 
 // How many bytes there are up to the last that separates words: what is behind them may be a word's beginning.
 pub fn whole_words(bytes: &[u8]) -> usize
     ensures { result ≡ whole_words bytes.now (length bytes.now) }
 {
-    let mut k = bytes.len();
-    while 0 < k {
-        if separates(bytes[k - 1]) {
-            return k;
-        }
-        k -= 1;
+    match bytes.iter().rposition(|byte| separates(*byte)) {
+        Some(last) => last + 1,
+        None => 0,
     }
-    0
 }

@@ -4,8 +4,7 @@ use Prim.Native.Nat.{ℕ, ◌+◌, ◌≤◌, ◌<◌}
 use native.Mathlib.Omega.{arith}
 use lib.ListN.{length, drop, get_or}
 use mathlib.Core.List.{List}
-use Rattle.number.specs.declared.Found.{Found}
-use Rattle.number.specs.Number.{number_at, end_of_number}
+use Rattle.number.specs.Number.{Found, number_at, end_of_number}
 use Rattle.number.proofs.Laws.{last_read, more_read}
 use Rattle.number.proofs.Groups.{Passed, passed_first, from_byte, zeroed, valued, turned, tenth_one, tenth_other}
 

@@ -14,33 +14,31 @@ use lib.ListN.{length, drop, get_or, drop_of_length-le}
 use lib.Seq.{drop-cons}
 use mir.Val.{Fits}
 use mir.Syntax.{w64}
-use Rattle.number.specs.declared.Found.{Found}
-use Rattle.number.specs.declared.Found.TheVariants.{Value, Malformed, Ended}
-use Rattle.number.specs.Number.{continued, number_in}
+use Rattle.number.specs.Number.{Found, continued, number_in}
 use Rattle.bits.proofs.Cases.{below_or_not}
 use Rattle.number.proofs.Laws.{last_read, more_read, continued_value}
+use Rattle.number.specs.declared.Fault.TheVariants.{Malformed, Ended}
+use Rattle.std.proofs.Common.{Ok, Err}
 
 -- `value` is what the groups passed come to, the next group counts by `place`, and what the rest reads as is below `limit`
 abbrev pub after : ℕ → ℕ → ℕ → Found → Found
-after value place limit (Value n next) = cond (eqb n 0 || leb limit n) Malformed (Value (value + place * n) next)
-after value place limit Malformed = Malformed
-after value place limit Ended = Ended
+after value place limit (Ok (n, next)) = cond (eqb n 0 || leb limit n) (Err Malformed) (Ok (value + place * n, next))
+after value place limit (Err fault) = Err fault
 
 after_first : (b : ℕ) (f : Found) → continued b f ≡ after (b - 128) 128 (2 * 128 ^ 8) f
-after_first b (Value n next) = refl
-after_first b Malformed = refl
-after_first b Ended = refl
+after_first b (Ok (n, next)) = refl
+after_first b (Err fault) = refl
 
-after_large : (v p l n next : ℕ) → 0 < n → l ≤ n → after v p l (Value n next) ≡ Malformed
+after_large : (v p l n next : ℕ) → 0 < n → l ≤ n → after v p l (Ok (n, next)) ≡ Err Malformed
 after_large v p l n next h g = rw (ne_eqb n 0 (omega arith), le-leb l n g)
 
-after_value : (v p l n next : ℕ) → 0 < n → n < l → after v p l (Value n next) ≡ Value (v + p * n) next
+after_value : (v p l n next : ℕ) → 0 < n → n < l → after v p l (Ok (n, next)) ≡ Ok (v + p * n, next)
 after_value v p l n next h g = rw (ne_eqb n 0 (omega arith), lt-leb l n g)
 
 -- One more group
 after_more : (v p l b : ℕ) (f : Found) → 128 ≤ b → b < 256 → l ≤ 2 ^ 57
     → after v p (128 * l) (continued b f) ≡ after (v + p * (b - 128)) (p * 128) l f
-after_more v p l b (Value n next) g h w =
+after_more v p l b (Ok (n, next)) g h w =
     ⊎_elim (λ z. rw (eq-eqb n 0 (omega arith)))
     (λ z.
     ⊎_elim (λ s. ap (after v p (128 * l)) (continued_value b n next z s) ∙ grouped z)
@@ -51,15 +49,14 @@ after_more v p l b (Value n next) g h w =
     sum : v + p * (b - 128 + 128 * n) ≡ v + p * (b - 128) + p * 128 * n
     sum = simp (mul-add, mul_assoc, add_assoc)
 
-    grouped : 0 < n → after v p (128 * l) (Value (b - 128 + 128 * n) next) ≡ after (v + p * (b - 128)) (p * 128) l (Value n next)
+    grouped : 0 < n → after v p (128 * l) (Ok (b - 128 + 128 * n, next)) ≡ after (v + p * (b - 128)) (p * 128) l (Ok (n, next))
     grouped z =
         ⊎_elim (λ s. after_value v p (128 * l) (b - 128 + 128 * n) next (omega arith) (omega arith)
         ∙ rw sum (sym (after_value (v + p * (b - 128)) (p * 128) l n next z s)))
         (λ s. after_large v p (128 * l) (b - 128 + 128 * n) next (omega arith) (omega arith)
         ∙ sym (after_large (v + p * (b - 128)) (p * 128) l n next z s))
         (below_or_not n l)
-after_more v p l b Malformed g h w = refl
-after_more v p l b Ended g h w = refl
+after_more v p l b (Err fault) g h w = refl
 
 -- The reader's invariant: at place i of the bytes s, with the tenth byte k places further, k + 1 bytes are still allowed, and
 -- what the groups passed make of what they read as is the whole
@@ -106,7 +103,7 @@ tenth zero p e h = (refl, omega arith)
 tenth (suc j) p e h = absurd (omega arith)
 
 -- The rest, from a place past the end, and from one that holds a byte
-pub past_end : (k : ℕ) (s : List ℕ) (i : ℕ) → length s ≤ i → number_in (suc k) (drop i s) i ≡ Ended
+pub past_end : (k : ℕ) (s : List ℕ) (i : ℕ) → length s ≤ i → number_in (suc k) (drop i s) i ≡ Err Ended
 unfolding number_in
 past_end k s i e = rw (drop_of_length-le s e)
 
@@ -114,18 +111,18 @@ pub from_byte : (s : List ℕ) (i : ℕ) → i < length s → drop i s ≡ get_o
 from_byte s i h = rw add-one (drop-cons s i 0 h)
 
 module _ {w : Found} {s : List ℕ} {t v p i : ℕ} (h : Passed w s t v p i) where
-  pub ended : length s ≤ i → Ended ≡ w
+  pub ended : length s ≤ i → Err Ended ≡ w
   ended e = sym (rw (past_end h.k s i e) at h.reads)
 
   -- A byte that ends the number, and one that does not
-  last : i < length s → get_or s i 0 < 128 → w ≡ after v p (2 * 128 ^ h.k) (Value (get_or s i 0) (i + 1))
+  last : i < length s → get_or s i 0 < 128 → w ≡ after v p (2 * 128 ^ h.k) (Ok (get_or s i 0, i + 1))
   last e l = rw (from_byte s i e, last_read h.k (get_or s i 0) (drop (i + 1) s) i l) at h.reads
 
   more : i < length s → 128 ≤ get_or s i 0
       → w ≡ after v p (2 * 128 ^ h.k) (continued (get_or s i 0) (number_in h.k (drop (i + 1) s) (i + 1)))
   more e g = rw (from_byte s i e, more_read h.k (get_or s i 0) (drop (i + 1) s) i g) at h.reads
 
-  pub zeroed : i < length s → get_or s i 0 ≡ 0 → Malformed ≡ w
+  pub zeroed : i < length s → get_or s i 0 ≡ 0 → Err Malformed ≡ w
   zeroed e z = sym (rw z at (last e (omega arith)))
 
   room_left : i < t → Room h.k p
@@ -147,7 +144,7 @@ module _ {w : Found} {s : List ℕ} {t v p i : ℕ} (h : Passed w s t v p i) whe
   pub sum_fits : i < t → {b : ℕ} → b < 128 → Fits w64 (v + p * b)
   sum_fits l {b} g = omega (arith, group_fits l b g)
 
-  pub valued : i < t → i < length s → 0 < get_or s i 0 → get_or s i 0 < 128 → Value (v + p * get_or s i 0) (i + 1) ≡ w
+  pub valued : i < t → i < length s → 0 < get_or s i 0 → get_or s i 0 < 128 → Ok (v + p * get_or s i 0, i + 1) ≡ w
   valued l e z g =
       let low = h.low in
       let q = room_left l in
@@ -179,13 +176,13 @@ module _ {w : Found} {s : List ℕ} {t v p i : ℕ} (h : Passed w s t v p i) whe
   pub tenth_place : t ≤ i → p ≡ 2 ^ 63
   tenth_place g = (there g).1
 
-  pub tenth_one : t ≤ i → i < length s → get_or s i 0 ≡ 1 → Value (v + 2 ^ 63) (i + 1) ≡ w
+  pub tenth_one : t ≤ i → i < length s → get_or s i 0 ≡ 1 → Ok (v + 2 ^ 63, i + 1) ≡ w
   tenth_one g e z =
       let at_tenth = there g in
       let sum : v + p * get_or s i 0 ≡ v + 2 ^ 63 = rw (z, at_tenth.1) in
       sym (last e (omega arith) ∙ after_value v p (2 * 128 ^ h.k) (get_or s i 0) (i + 1) (omega arith) (omega arith) ∙ rw sum)
 
-  pub tenth_other : t ≤ i → i < length s → (get_or s i 0 ≡ 1 → ⊥) → Malformed ≡ w
+  pub tenth_other : t ≤ i → i < length s → (get_or s i 0 ≡ 1 → ⊥) → Err Malformed ≡ w
   unfolding number_in
   tenth_other g e f =
       let at_tenth = there g in

@@ -12,9 +12,10 @@ use lib.Seq.{drop-drop, drop_at, get_or-drop, length-take-le, sets, sets-eq, len
 use mir.Val.{Fits}
 use mir.Syntax.{w8}
 use Rattle.bits.proofs.Cases.{below_or_not}
-use Rattle.number.specs.declared.Found.{Found}
-use Rattle.number.specs.declared.Found.TheVariants.{Value, Malformed, Ended}
-use Rattle.number.specs.Number.{continued, number_in, number_at, bytes_in, bytes_of, written}
+use Rattle.number.specs.Number.{Found, continued, number_in, number_at, bytes_in, bytes_of, written}
+use Rattle.number.specs.declared.Fault.TheVariants.{Malformed, Ended}
+use Rattle.std.proofs.Common.{Ok, Err}
+use Rattle.bits.proofs.Pairs.{ok_parts}
 
 -- One byte or more, written
 pub last_in : (k n : ℕ) → n < 128 → bytes_in (suc k) n ≡ n ∷ []
@@ -26,7 +27,7 @@ unfolding bytes_in
 more_in k n h = rw (le-ltb n 128 h)
 
 -- One byte or more, read
-pub last_read : (k b : ℕ) (s : List ℕ) (at : ℕ) → b < 128 → number_in (suc k) (b ∷ s) at ≡ Value b (at + 1)
+pub last_read : (k b : ℕ) (s : List ℕ) (at : ℕ) → b < 128 → number_in (suc k) (b ∷ s) at ≡ Ok (b, at + 1)
 unfolding number_in
 last_read k b s at h = rw (lt-ltb b 128 h)
 
@@ -35,7 +36,7 @@ pub more_read : (k b : ℕ) (s : List ℕ) (at : ℕ) → 128 ≤ b
 unfolding number_in
 more_read k b s at h = rw (le-ltb b 128 h)
 
-pub continued_value : (b n next : ℕ) → 0 < n → n < 2 ^ 57 → continued b (Value n next) ≡ Value (b - 128 + 128 * n) next
+pub continued_value : (b n next : ℕ) → 0 < n → n < 2 ^ 57 → continued b (Ok (n, next)) ≡ Ok (b - 128 + 128 * n, next)
 continued_value b n next p h = rw (ne_eqb n 0 (omega arith), lt-leb (2 ^ 57) n h)
 
 -- Where k + 1 bytes are enough, one more changes nothing
@@ -102,7 +103,7 @@ written_more out at xs ys h =
 
 -- What is written reads back
 ReadsBack : ℕ → ℕ → ℕ → List ℕ → Type 0
-ReadsBack k n at b = number_in k (bytes_in k n ++ b) at ≡ Value n (at + length (bytes_in k n))
+ReadsBack k n at b = number_in k (bytes_in k n ++ b) at ≡ Ok (n, at + length (bytes_in k n))
 
 read_last : (k n at : ℕ) (b : List ℕ) → n < 128 → ReadsBack (suc k) n at b
 unfolding ReadsBack
@@ -129,12 +130,12 @@ read_in (suc k) n at b h w =
     (below_or_not n 128)
 
 pub read_written : (s : List ℕ) (at n : ℕ) (b : List ℕ) → n < 2 ^ 64 → drop at s ≡ bytes_of n ++ b
-    → number_at s at ≡ Value n (at + length (bytes_of n))
+    → number_at s at ≡ Ok (n, at + length (bytes_of n))
 unfolding number_at bytes_of ReadsBack
 read_written s at n b h e = rw e (read_in 9 n at b h h)
 
 pub written_reads : (out : List ℕ) (at n : ℕ) → n < 2 ^ 64 → at + length (bytes_of n) ≤ length out
-    → number_at (written out at (bytes_of n)) at ≡ Value n (at + length (bytes_of n))
+    → number_at (written out at (bytes_of n)) at ≡ Ok (n, at + length (bytes_of n))
 written_reads out at n h f =
     let past : List ℕ = drop (at + length (bytes_of n)) out in
     let front : length (take at out) ≡ at = length-take-le at out (omega arith) in
@@ -147,17 +148,19 @@ Bytes s = (i : ℕ) → Fits w8 (get_or s i 0)
 never : {A : Type 0} → ◌≡◌ {A = ℕ} 0 1 → A
 never e = absurd (omega arith)
 
-continued_inv : (b : ℕ) (f : Found) (n next : ℕ) → continued b f ≡ Value n next
-    → (m : ℕ) × (f ≡ Value m next) × (0 < m) × (m < 2 ^ 57) × (n ≡ b - 128 + 128 * m)
-continued_inv b (Value m x) n next e =
+-- What follows a byte that says so is a number too, and not 0.
+pub continued_inv : (b : ℕ) (f : Found) (n next : ℕ) → continued b f ≡ Ok (n, next)
+    → (m : ℕ) × (f ≡ Ok (m, next)) × (0 < m) × (m < 2 ^ 57) × (n ≡ b - 128 + 128 * m)
+continued_inv b (Ok (m, x)) n next e =
     ⊎_elim (λ z. let v = rw (eq-eqb m 0 (omega arith)) at e in never (cc))
     (λ p.
-    ⊎_elim (λ l. let v = rw (continued_value b m x p l) at e in (m, cc, p, l, cc))
+    ⊎_elim (λ l.
+    let parts = ok_parts (b - 128 + 128 * m) n x next (rw (continued_value b m x p l) at e) in
+    (m, rw parts.1 refl, p, l, sym parts.0))
     (λ g. let v = rw (ne_eqb m 0 (omega arith), le-leb (2 ^ 57) m g) at e in never (cc))
     (below_or_not m (2 ^ 57)))
     (below_or_not m 1)
-continued_inv b Malformed n next e = never (cc)
-continued_inv b Ended n next e = never (cc)
+continued_inv b (Err fault) n next e = never (cc)
 
 Whole : ℕ → List ℕ → ℕ → ℕ → ℕ → Type 0
 Whole k s at n next =
@@ -177,15 +180,13 @@ whole_more k b s at m next g w p l ih =
     rw (more_in k (b - 128 + 128 * m) (omega arith), head, rest)
     (omega arith, ih.1 ∙ on, ap (λ (r : List ℕ). b ∷ r) ih.2)
 
-reads_in : (k : ℕ) (s : List ℕ) (at n next : ℕ) → Bytes s → number_in k s at ≡ Value n next → Whole k s at n next
+reads_in : (k : ℕ) (s : List ℕ) (at n next : ℕ) → Bytes s → number_in k s at ≡ Ok (n, next) → Whole k s at n next
 unfolding number_in
 reads_in zero s at n next h e = never (cc)
 reads_in (suc k) [] at n next h e = never (cc)
 reads_in (suc k) (b ∷ s) at n next h e =
     ⊎_elim (λ l.
-    let v : Value b (at + 1) ≡ Value n next = sym (last_read k b s at l) ∙ e in
-    let eb : b ≡ n = cc in
-    let en : at + 1 ≡ next = cc in
+    let (eb, en) = ok_parts b n (at + 1) next (sym (last_read k b s at l) ∙ e) in
     rw (← eb, ← en) (whole_last k b s at l))
     (λ g.
     let i = continued_inv b (number_in k s (at + 1)) n next (sym (more_read k b s at g) ∙ e) in
@@ -200,7 +201,7 @@ pub record Read (s : List ℕ) (at n next : ℕ) : Type 0 where
   pub further : at < next
   pub within : next ≤ length s
 
-pub what_reads : (s : List ℕ) (at n next : ℕ) → Bytes s → number_at s at ≡ Value n next → Read s at n next
+pub what_reads : (s : List ℕ) (at n next : ℕ) → Bytes s → number_at s at ≡ Ok (n, next) → Read s at n next
 unfolding number_at bytes_of Whole
 what_reads s at n next h e =
     let w = reads_in 10 (drop at s) at n next (λ i. rw get_or-drop (h (at + i))) e in
@@ -216,9 +217,9 @@ what_reads s at n next h e =
 nines : List ℕ → List ℕ
 nines l = 255 ∷ 255 ∷ 255 ∷ 255 ∷ 255 ∷ 255 ∷ 255 ∷ 255 ∷ 255 ∷ l
 
-examples : (bytes_of 300 ≡ 0xAC ∷ 0x02 ∷ []) × (number_at (0xAC ∷ 0x02 ∷ []) 0 ≡ Value 300 2)
-    × (number_at (0x80 ∷ 0x00 ∷ []) 0 ≡ Malformed) × (number_at (0x80 ∷ []) 0 ≡ Ended)
-    × (bytes_of (2 ^ 64 - 1) ≡ nines (1 ∷ [])) × (number_at (nines (1 ∷ [])) 0 ≡ Value (2 ^ 64 - 1) 10)
-    × (number_at (nines (2 ∷ [])) 0 ≡ Malformed)
+examples : (bytes_of 300 ≡ 0xAC ∷ 0x02 ∷ []) × (number_at (0xAC ∷ 0x02 ∷ []) 0 ≡ Ok (300, 2))
+    × (number_at (0x80 ∷ 0x00 ∷ []) 0 ≡ Err Malformed) × (number_at (0x80 ∷ []) 0 ≡ Err Ended)
+    × (bytes_of (2 ^ 64 - 1) ≡ nines (1 ∷ [])) × (number_at (nines (1 ∷ [])) 0 ≡ Ok (2 ^ 64 - 1, 10))
+    × (number_at (nines (2 ∷ [])) 0 ≡ Err Malformed)
 unfolding number_at number_in bytes_of bytes_in nines
 examples = (refl, refl, refl, refl, refl, refl, refl)

@@ -2,7 +2,7 @@
 -- only moves the places, and what stands past ten bytes is not looked at.
 use Prim.Native.Nat.{ℕ, zero, suc, ◌+◌, ◌*◌, ◌-◌, ◌^◌, ◌≤◌, ◌<◌}
 use native.Mathlib.Omega.{arith}
-use mathlib.Core.Path.{◌≡◌, refl, ap}
+use mathlib.Core.Path.{◌≡◌, refl}
 use mathlib.Core.Logic.{⊎_elim}
 use mathlib.Core.Bool.{Bool, true, false, cond, ◌||◌}
 use mathlib.Core.List.{List, [], ◌∷◌, ◌++◌}
@@ -10,25 +10,24 @@ use lib.Dec.{leb, eqb}
 use lib.ListN.{length, drop, length-drop}
 use lib.Seq.{drop-drop, drop-append-le}
 use Rattle.bits.proofs.Cases.{below_or_not, never}
-use Rattle.number.specs.declared.Found.{Found}
-use Rattle.number.specs.declared.Found.TheVariants.{Value, Malformed, Ended}
-use Rattle.number.specs.Number.{continued, number_in, number_at}
-use Rattle.number.proofs.Laws.{last_read, more_read}
+use Rattle.number.specs.Number.{Found, continued, number_in, number_at}
+use Rattle.number.proofs.Laws.{last_read, more_read, continued_inv}
+use Rattle.number.specs.declared.Fault.TheVariants.{Malformed}
+use Rattle.std.proofs.Common.{Ok, Err}
+use Rattle.bits.proofs.Pairs.{ok_parts}
 
 -- What was found, with its place moved.
 abbrev pub moved : ℕ → Found → Found
-moved d (Value n next) = Value n (d + next)
-moved d Malformed = Malformed
-moved d Ended = Ended
+moved d (Ok (n, next)) = Ok (n, d + next)
+moved d (Err fault) = Err fault
 
 moved_continued : (d b : ℕ) (f : Found) → continued b (moved d f) ≡ moved d (continued b f)
-moved_continued d b (Value n next) = go (eqb n 0 || leb (2 ^ 57) n)
+moved_continued d b (Ok (n, next)) = go (eqb n 0 || leb (2 ^ 57) n)
   where
-    go : (t : Bool) → cond t Malformed (Value (b - 128 + 128 * n) (d + next)) ≡ moved d (cond t Malformed (Value (b - 128 + 128 * n) next))
+    go : (t : Bool) → cond t (Err Malformed) (Ok (b - 128 + 128 * n, d + next)) ≡ moved d (cond t (Err Malformed) (Ok (b - 128 + 128 * n, next)))
     go true = refl
     go false = refl
-moved_continued d b Malformed = refl
-moved_continued d b Ended = refl
+moved_continued d b (Err fault) = refl
 
 moved_in : (k : ℕ) (bytes : List ℕ) (d at : ℕ) → number_in k bytes (d + at) ≡ moved d (number_in k bytes at)
 unfolding number_in
@@ -36,7 +35,7 @@ moved_in zero bytes d at = refl
 moved_in (suc k) [] d at = refl
 moved_in (suc k) (b ∷ bytes) d at =
     ⊎_elim
-    (λ l. rw (last_read k b bytes (d + at) l, last_read k b bytes at l) (ap (Value b) (omega arith)))
+    (λ l. rw (last_read k b bytes (d + at) l, last_read k b bytes at l) (let place : d + at + 1 ≡ d + (at + 1) = omega arith in rw place refl))
     (λ g.
     let same : d + at + 1 ≡ d + (at + 1) = omega arith in
     rw (more_read k b bytes (d + at) g, more_read k b bytes at g, same, moved_in k bytes d (at + 1)) (moved_continued d b (number_in k bytes (at + 1))))
@@ -53,29 +52,20 @@ pub record Reach (allowed : ℕ) (bytes : List ℕ) (at next : ℕ) : Type 0 whe
   pub allowed_to : next ≤ at + allowed
   pub there : next ≤ at + length bytes
 
-continued_inv : (b n next : ℕ) (f : Found) → continued b f ≡ Value n next → (m : ℕ) × (f ≡ Value m next)
-continued_inv b n next (Value m p) e = go (eqb m 0 || leb (2 ^ 57) m) e
-  where
-    go : (t : Bool) → cond t Malformed (Value (b - 128 + 128 * m) p) ≡ Value n next → (k : ℕ) × (Value m p ≡ Value k next)
-    go true h = never (cc)
-    go false h = (m, cc)
-continued_inv b n next Malformed e = never (cc)
-continued_inv b n next Ended e = never (cc)
-
-reach_in : (k : ℕ) (bytes : List ℕ) (at n next : ℕ) → number_in k bytes at ≡ Value n next → Reach k bytes at next
+reach_in : (k : ℕ) (bytes : List ℕ) (at n next : ℕ) → number_in k bytes at ≡ Ok (n, next) → Reach k bytes at next
 unfolding number_in
 reach_in zero bytes at n next e = never (cc)
 reach_in (suc k) [] at n next e = never (cc)
 reach_in (suc k) (b ∷ bytes) at n next e =
     ⊎_elim
-    (λ l. let place : at + 1 ≡ next = cc (rw (last_read k b bytes at l) at e) in record { further = omega arith; allowed_to = omega arith; there = omega arith })
+    (λ l. let parts = ok_parts b n (at + 1) next (rw (last_read k b bytes at l) at e) in record { further = omega arith; allowed_to = omega arith; there = omega arith })
     (λ g.
-    let i = continued_inv b n next (number_in k bytes (at + 1)) (rw (more_read k b bytes at g) at e) in
+    let i = continued_inv b (number_in k bytes (at + 1)) n next (rw (more_read k b bytes at g) at e) in
     let r = reach_in k bytes (at + 1) i.0 next i.1 in
     record { further = omega (arith, r.further); allowed_to = omega (arith, r.allowed_to); there = omega (arith, r.there) })
     (below_or_not b 128)
 
-pub reach : (bytes : List ℕ) (at n next : ℕ) → number_at bytes at ≡ Value n next → Reach 10 (drop at bytes) at next
+pub reach : (bytes : List ℕ) (at n next : ℕ) → number_at bytes at ≡ Ok (n, next) → Reach 10 (drop at bytes) at next
 unfolding number_at
 reach bytes at n next e = reach_in 10 (drop at bytes) at n next e
 

@@ -1,40 +1,35 @@
 -- One number of a recording: its digits in base 128, lowest first, a byte each, with the byte's top bit saying that another
 -- follows. Only the shortest form counts, of a number below 2^64, which has ten digits at most. So AC 02 is 44 + 2 × 128, and
 -- 80 00, a 0 with a digit too many, is no number. Document 01, "Recordings"; docs/MANUAL.md, "Recordings".
-use Rattle.std.specs.Prelude.{ℕ, zero, suc, ◌+◌, ◌*◌, ◌-◌, ◌^◌, ◌/◌, ◌%◌, cond, ◌||◌, List, [], ◌∷◌, ◌++◌, leb, ltb, eqb, length, take, drop}
-use Rattle.number.specs.declared.Found.{Found}
-use Rattle.number.specs.declared.Found.TheVariants.{Value, Malformed, Ended}
+use Rattle.std.specs.Prelude.{ℕ, zero, suc, ◌+◌, ◌*◌, ◌-◌, ◌^◌, ◌/◌, ◌%◌, cond, ◌||◌, List, [], ◌∷◌, ◌++◌, leb, ltb, eqb, length, take, drop, Result, Ok, Err}
+use Rattle.number.specs.declared.Fault.{Fault}
+use Rattle.number.specs.declared.Fault.TheVariants.{Malformed, Ended}
+
+-- What is found at a place: a number and the place after it, or why there is none.
+abbrev pub Found : Type 0
+Found = Result (ℕ × ℕ) Fault
 
 -- A byte b with its top bit set, in front of what the bytes after it read as. They must not read as 0, or the form were not
 -- the shortest, and must stay below 2^57, so that 128 times as much stays below 2^64.
 abbrev pub continued : ℕ → Found → Found
-continued b (Value n next) = cond (eqb n 0 || leb (2 ^ 57) n) Malformed (Value (b - 128 + 128 * n) next)
-continued b Malformed = Malformed
-continued b Ended = Ended
+continued b (Ok (n, next)) = cond (eqb n 0 || leb (2 ^ 57) n) (Err Malformed) (Ok (b - 128 + 128 * n, next))
+continued b (Err fault) = Err fault
 
 -- The number in front of the list, whose first byte stands at the given place, where so many bytes are still allowed to it.
 -- Where a further byte is needed and none is allowed any more, it is malformed.
 unfoldable pub number_in : ℕ → List ℕ → ℕ → Found
-number_in zero bytes at = Malformed
-number_in (suc allowed) [] at = Ended
-number_in (suc allowed) (b ∷ bytes) at = cond (ltb b 128) (Value b (at + 1)) (continued b (number_in allowed bytes (at + 1)))
+number_in zero bytes at = Err Malformed
+number_in (suc allowed) [] at = Err Ended
+number_in (suc allowed) (b ∷ bytes) at = cond (ltb b 128) (Ok (b, at + 1)) (continued b (number_in allowed bytes (at + 1)))
 
 -- The number at a place of a recording, and the place after it.
 unfoldable pub number_at : List ℕ → ℕ → Found
 number_at bytes at = number_in 10 (drop at bytes) at
 
--- The refusal's number, 0 where a number was found: 1 for a malformed one, and for one that the end of the input cuts off,
--- which is told apart for whoever can bring more input.
-abbrev pub found_refusal : Found → ℕ
-found_refusal (Value n next) = 0
-found_refusal Malformed = 1
-found_refusal Ended = 1
-
 -- The place after the number that was found; 0, which is after none, where none was.
 abbrev pub end_of_number : Found → ℕ
-end_of_number (Value n next) = next
-end_of_number Malformed = 0
-end_of_number Ended = 0
+end_of_number (Ok (n, next)) = next
+end_of_number (Err fault) = 0
 
 -- The bytes of n, where it has at most so many digits in base 128.
 unfoldable pub bytes_in : ℕ → ℕ → List ℕ

@@ -4,12 +4,10 @@
 ghost use Rattle.std.specs.Prelude.{◌≡◌, ◌+◌, ◌≤◌, ◌<◌, length, drop};
 ghost use Rattle.number.specs.Number.{continued, number_in, number_at, bytes_of, written, written_if, count_if};
 
-// What stands at a place of a recording.
-#[derive(Clone, Copy)]
-pub enum Found {
-    // A number, and the place after it.
-    Value(u64, usize),
-    // No number in the shortest form below 2^64.
+// Why no number can be read at a place.
+#[derive(Clone, Copy, Debug, PartialEq, Eq)]
+pub enum Fault {
+    // What stands there is no number in the shortest form below 2^64.
     Malformed,
     // The bytes end before the number does.
     Ended,
@@ -20,15 +18,15 @@ const TENTH: u64 = 0x8000_0000_0000_0000;
 
 // The number at a place. Its first byte stands apart: only there can the last digit be 0, and a number below 128, as most are, is
 // that byte, without the general path (document 02, Three).
-pub fn number_at(bytes: &[u8], at: usize) -> Found
+pub fn number_at(bytes: &[u8], at: usize) -> Result<(u64, usize), Fault>
     ensures { result ≡ number_at bytes.now at }
 {
     if bytes.len() <= at {
-        return Found::Ended;
+        return Err(Fault::Ended);
     }
     let first = bytes[at] as u64;
     if first < 128 {
-        return Found::Value(first, at + 1);
+        return Ok((first, at + 1));
     }
     more_at(bytes, at + 1, first)
 }
@@ -45,7 +43,7 @@ fn tenth_at(size: usize, at: usize) -> usize
 // so far come to, and the next counts by `place`. A last digit of 0 would be one too many. The tenth byte stands after the
 // loop, since of its digit only one bit is left below 2^64. Where the loop ends is found first: the compiler then leaves it a loop,
 // and `number_at` small enough to be compiled into its callers (docs/landings/03-short-path.md).
-fn more_at(bytes: &[u8], at: usize, first: u64) -> Found
+fn more_at(bytes: &[u8], at: usize, first: u64) -> Result<(u64, usize), Fault>
     requires { (128 ≤ first) × (first < 256) × (at ≤ length bytes.now) }
     ensures { result ≡ continued first (number_in 9 (drop at bytes.now) at) }
 {
@@ -57,21 +55,21 @@ fn more_at(bytes: &[u8], at: usize, first: u64) -> Found
         let byte = bytes[i] as u64;
         if byte < 128 {
             if byte == 0 {
-                return Found::Malformed;
+                return Err(Fault::Malformed);
             }
-            return Found::Value(value + place * byte, i + 1);
+            return Ok((value + place * byte, i + 1));
         }
         value = value + place * (byte - 128);
         place = place * 128;
         i = i + 1;
     }
     if bytes.len() <= i {
-        return Found::Ended;
+        return Err(Fault::Ended);
     }
     if bytes[i] == 1 {
-        return Found::Value(value + TENTH, i + 1);
+        return Ok((value + TENTH, i + 1));
     }
-    Found::Malformed
+    Err(Fault::Malformed)
 }
 
 // How many bytes the shortest form of n has: never more than ten, so that a caller's sums of a few do not wrap.

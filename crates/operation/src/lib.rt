@@ -3,6 +3,7 @@
 #![tactic(auto)]
 
 ghost use Rattle.std.specs.Prelude.{◌≡◌, false, ◌||◌, not, [], ◌∷◌, eqb, ltb};
+ghost use Rattle.answer.specs.Answer.{number_or_0};
 ghost use Rattle.bits.specs.Bits.{one_of};
 ghost use Rattle.state.specs.Named.{is_halted};
 ghost use Rattle.state.specs.Sound.{unavailable};
@@ -12,6 +13,7 @@ ghost use Rattle.operation.specs.Clause.{changed};
 ghost use Rattle.operation.specs.Refusal.{unknown_code, not_reset, outside_list, wrong_halted, wrong_level, room_too_short, first_that, refusal_of};
 
 use access::is_register;
+use answer::Refusal;
 use bits::pick;
 use filter::{BranchType, is_exception_type};
 use state::{PLATFORM_MASK, State, is_size};
@@ -74,6 +76,7 @@ pub enum Operation {
 }
 
 // An operation from its code and four numbers, of which it takes its own fields.
+#[tactic(auto, unfolding(crate::specs::Operation::operation_of))]
 pub fn operation_of(code: u64, a: u64, b: u64, c: u64, d: u64) -> Operation
     ensures { result ≡ operation_of code a b c d }
 {
@@ -139,27 +142,27 @@ fn code_of(o: Operation) -> u64
     }
 }
 
-// The first of refusals 4, 8 and 5 whose condition is met, or 0: a number of the operation is outside its list; nothing runs while the
+// The first of refusals 4, 8 and 5 whose condition is met, or none: a number of the operation is outside its list; nothing runs while the
 // processor is halted, and only a halted one resumes; the level does not let the operation happen.
-fn first_of(outside: bool, halted: bool, level: bool) -> u64
-    ensures { result ≡ first_that ((4, outside) ∷ (8, halted) ∷ (5, level) ∷ []) }
+fn first_of(outside: bool, halted: bool, level: bool) -> Option<Refusal>
+    ensures { number_or_0 result ≡ first_that ((4, outside) ∷ (8, halted) ∷ (5, level) ∷ []) }
 {
-    let by_level = pick(level, 5, 0);
-    let by_halted = pick(halted, 8, by_level);
-    pick(outside, 4, by_halted)
+    let by_level = pick(level, Some(Refusal::WrongLevel), None);
+    let by_halted = pick(halted, Some(Refusal::WrongHalted), by_level);
+    pick(outside, Some(Refusal::OutsideList), by_halted)
 }
 
 // A branch: its type and its flag are looked at, and it needs a processor that runs.
-fn judge_branch(s: State, kind: u64, mispredicted: u64) -> u64
-    ensures { result ≡ first_that ((4, not (one_of branch_types kind) || ltb 1 mispredicted) ∷ (8, is_halted s) ∷ (5, false) ∷ []) }
+fn judge_branch(s: State, kind: u64, mispredicted: u64) -> Option<Refusal>
+    ensures { number_or_0 result ≡ first_that ((4, not (one_of branch_types kind) || ltb 1 mispredicted) ∷ (8, is_halted s) ∷ (5, false) ∷ []) }
 {
     let t = BranchType { code: kind };
     first_of(!t.listed() | (1 < mispredicted), s.halted == 1, false)
 }
 
 // An exception goes neither down nor to EL0.
-fn judge_exception(s: State, kind: u64, level: u64) -> u64
-    ensures { result ≡ first_that ((4, not (one_of exception_types kind) || ltb 3 level) ∷ (8, is_halted s) ∷ (5, ltb level s.level || eqb level 0 || unavailable s level) ∷ []) }
+fn judge_exception(s: State, kind: u64, level: u64) -> Option<Refusal>
+    ensures { number_or_0 result ≡ first_that ((4, not (one_of exception_types kind) || ltb 3 level) ∷ (8, is_halted s) ∷ (5, ltb level s.level || eqb level 0 || unavailable s level) ∷ []) }
 {
     let listed = is_exception_type(kind);
     let unavailable = s.unavailable(level);
@@ -171,8 +174,8 @@ fn judge_exception(s: State, kind: u64, level: u64) -> u64
 }
 
 // A return does not come from EL0 and does not go up.
-fn judge_return(s: State, level: u64, mispredicted: u64) -> u64
-    ensures { result ≡ first_that ((4, ltb 3 level || ltb 1 mispredicted) ∷ (8, is_halted s) ∷ (5, eqb s.level 0 || ltb s.level level || unavailable s level) ∷ []) }
+fn judge_return(s: State, level: u64, mispredicted: u64) -> Option<Refusal>
+    ensures { number_or_0 result ≡ first_that ((4, ltb 3 level || ltb 1 mispredicted) ∷ (8, is_halted s) ∷ (5, eqb s.level 0 || ltb s.level level || unavailable s level) ∷ []) }
 {
     let unavailable = s.unavailable(level);
     first_of(
@@ -183,8 +186,8 @@ fn judge_return(s: State, level: u64, mispredicted: u64) -> u64
 }
 
 // The first of an operation's three, one line each.
-fn judge(s: State, o: Operation) -> u64
-    ensures { result ≡ first_that ((4, outside_list o) ∷ (8, wrong_halted s o) ∷ (5, wrong_level s o) ∷ []) }
+fn judge(s: State, o: Operation) -> Option<Refusal>
+    ensures { number_or_0 result ≡ first_that ((4, outside_list o) ∷ (8, wrong_halted s o) ∷ (5, wrong_level s o) ∷ []) }
 {
     match o {
         Operation::Reset { size, v1p1 } => first_of(!is_size(size) | (1 < v1p1), false, false),
@@ -218,27 +221,18 @@ fn judge(s: State, o: Operation) -> u64
     }
 }
 
-// The size after the operation.
+// The size after the operation: a reset gives it, and nothing else changes it.
 fn size_after(s: State, o: Operation) -> u64
     ensures { result ≡ (changed s o).size }
 {
     match o {
         Operation::Reset { size, .. } => size,
-        Operation::Branch { .. } => s.size,
-        Operation::Exception { .. } => s.size,
-        Operation::Return { .. } => s.size,
-        Operation::Platform { .. } => s.size,
-        Operation::Read { .. } => s.size,
-        Operation::Write { .. } => s.size,
-        Operation::Iall => s.size,
-        Operation::Halt { .. } => s.size,
-        Operation::Resume { .. } => s.size,
-        Operation::Freeze { .. } => s.size,
-        Operation::Unknown => s.size,
+        _ => s.size,
     }
 }
 
 // 2: no operation has the code.
+#[tactic(auto, unfolding(crate::specs::Refusal::unknown_code))]
 fn unknown_code(o: Operation) -> bool
     ensures { result ≡ unknown_code o }
 {
@@ -247,6 +241,7 @@ fn unknown_code(o: Operation) -> bool
 }
 
 // 3: there was no reset yet, and this is none.
+#[tactic(auto, unfolding(crate::specs::Refusal::not_reset))]
 fn not_reset(s: State, o: Operation) -> bool
     ensures { result ≡ not_reset s o }
 {
@@ -256,6 +251,7 @@ fn not_reset(s: State, o: Operation) -> bool
 
 // 6: the lent room has too few numbers for the size after the operation. A third of it is compared, since three times a size
 // could wrap.
+#[tactic(auto, unfolding(crate::specs::Refusal::room_too_short))]
 fn room_too_short(s: State, o: Operation, room: usize) -> bool
     ensures { result ≡ room_too_short s o room }
 {
@@ -264,31 +260,30 @@ fn room_too_short(s: State, o: Operation, room: usize) -> bool
 }
 
 // The table's last four lines, in its order.
-fn content_refusal(s: State, o: Operation, room: usize) -> u64
-    ensures { result ≡ first_that ((4, outside_list o) ∷ (8, wrong_halted s o) ∷ (5, wrong_level s o) ∷ (6, room_too_short s o room) ∷ []) }
+fn content_refusal(s: State, o: Operation, room: usize) -> Option<Refusal>
+    ensures { number_or_0 result ≡ first_that ((4, outside_list o) ∷ (8, wrong_halted s o) ∷ (5, wrong_level s o) ∷ (6, room_too_short s o room) ∷ []) }
 {
-    let first = judge(s, o);
-    if first != 0 {
-        return first;
-    }
-    if room_too_short(s, o, room) {
-        return 6;
-    }
-    0
+    let short = pick(
+        room_too_short(s, o, room),
+        Some(Refusal::RoomTooShort),
+        None,
+    );
+    judge(s, o).or(short)
 }
 
-// The number of the first refusal whose condition holds, in the table's order, or 0: the operation is accepted.
-pub fn refusal(s: State, o: Operation, room: usize) -> u64
-    ensures { result ≡ refusal_of s o room }
+// The first refusal whose condition holds, in the table's order, or none: the operation is accepted.
+#[tactic(auto, unfolding(crate::specs::Refusal::refusal_of))]
+pub fn refusal(s: State, o: Operation, room: usize) -> Option<Refusal>
+    ensures { number_or_0 result ≡ refusal_of s o room }
 {
     if !s.sound() {
-        return 7;
+        return Some(Refusal::NotSound);
     }
     if unknown_code(o) {
-        return 2;
+        return Some(Refusal::UnknownCode);
     }
     if not_reset(s, o) {
-        return 3;
+        return Some(Refusal::NotReset);
     }
     content_refusal(s, o, room)
 }

@@ -7,31 +7,31 @@ use mathlib.Core.List.{List, [], ◌∷◌, ◌++◌}
 use native.Mathlib.Omega.{arith}
 use lib.Dec.{ltb, eqb}
 use lib.ListN.{length, length-append}
+use Rattle.std.proofs.Common.{Ok, Err}
 use Rattle.bits.proofs.Cases.{either, never}
 use Rattle.operation.specs.Operation.{last_code}
 use Rattle.recording.specs.Recording.{field_count}
 use Rattle.notation.specs.declared.Begun.{Begun}
-use Rattle.notation.specs.declared.Step.{Step}
 use Rattle.notation.specs.declared.Step.TheVariants.{More}
-use Rattle.notation.specs.Words.{is_blank, ends_operation, Meaning, number, wrong, digits_of, is_prefixed, meaning_of}
-use Rattle.notation.specs.Reading.{added, ended_at, with_meaning, with_word, read_from}
+use Rattle.notation.specs.Words.{is_blank, ends_operation, Meaning, digits_of, is_prefixed, meaning_of}
+use Rattle.notation.specs.Reading.{Outcome, added, ended_at, with_meaning, with_word, read_from}
 
 -- Behind a word, with more to come: what follows it decides.
-record Passed (begun : Begun) (word : List ℕ) (at : ℕ) (f : Begun → Step) (last : Begun) : Type 0 where
+record Passed (begun : Begun) (word : List ℕ) (at : ℕ) (f : Begun → Outcome) (last : Begun) : Type 0 where
   next : Begun
-  here : f next ≡ More last
-  any : (g : Begun → Step) → with_word begun word at g ≡ g next
+  here : f next ≡ Ok (More last)
+  any : (g : Begun → Outcome) → with_word begun word at g ≡ g next
 
-passed : (begun : Begun) (word : List ℕ) (at : ℕ) (f : Begun → Step) (last : Begun) → with_word begun word at f ≡ More last
+passed : (begun : Begun) (word : List ℕ) (at : ℕ) (f : Begun → Outcome) (last : Begun) → with_word begun word at f ≡ Ok (More last)
     → Passed begun word at f last
 passed begun [] at f last e = record { next = begun; here = e; any = λ g. refl }
 passed begun (b ∷ word) at f last e = go (meaning_of (b ∷ word)) refl e
   where
-    go : (m : Meaning) → meaning_of (b ∷ word) ≡ m → with_meaning begun at f m ≡ More last → Passed begun (b ∷ word) at f last
-    go (number n) same h = record { next = added begun n; here = h; any = λ g. rw same }
-    go (wrong problem) same h = never (cc)
+    go : (m : Meaning) → meaning_of (b ∷ word) ≡ m → with_meaning begun at f m ≡ Ok (More last) → Passed begun (b ∷ word) at f last
+    go (Ok n) same h = record { next = added begun n; here = h; any = λ g. rw same }
+    go (Err problem) same h = never (cc)
 
-ended_not_more : (begun last : Begun) (at : ℕ) → ended_at begun at ≡ More last → ⊥
+ended_not_more : (begun last : Begun) (at : ℕ) → ended_at begun at ≡ Ok (More last) → ⊥
 unfolding ended_at
 ended_not_more begun last at e =
     ⊎_elim (λ (f : eqb begun.count 0 ≡ true). let t = rw f at e in never (cc))
@@ -46,11 +46,11 @@ ended_not_more begun last at e =
 
 -- A part that ends with a blank, and the rest.
 pub in_parts : (part : List ℕ) (b : ℕ) (rest : List ℕ) (begun : Begun) (word : List ℕ) (at : ℕ) (last : Begun) → is_blank b ≡ true
-    → read_from begun word (part ++ (b ∷ [])) at ≡ More last
+    → read_from begun word (part ++ (b ∷ [])) at ≡ Ok (More last)
     → read_from begun word (part ++ (b ∷ rest)) at ≡ read_from last [] rest (at + length word + length part + 1)
 unfolding read_from
 in_parts [] b rest begun word at last blank e =
-    let p = passed begun word at (λ more. More more) last (rw blank at e) in
+    let p = passed begun word at (λ more. Ok (More more)) last (rw blank at e) in
     let same : p.next ≡ last = cc in
     let place : at + length word + 0 + 1 ≡ at + length word + 1 = omega arith in
     rw blank (p.any (λ more. read_from more [] rest (at + length word + 1)) ∙ rw (same, place))

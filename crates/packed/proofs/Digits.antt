@@ -7,46 +7,42 @@ use mathlib.Core.List.{List, [], ◌∷◌, ◌++◌}
 use native.Mathlib.Nat.{pow-suc}
 use native.Mathlib.Omega.{arith}
 use borrow.Author.Tests.{lt-ltb, le-ltb, ne_eqb}
-use lib.Dec.{ltb, eqb}
+use lib.Dec.{eqb}
 use lib.ListN.{length}
-use Rattle.bits.proofs.Cases.{below_or_not, either, never}
+use Rattle.std.proofs.Common.{◌-◌, Some, Ok, Err}
+use Rattle.bits.proofs.Cases.{below_or_not, never}
 use Rattle.text.specs.Text.{digit, digits, decimal_count, decimal}
 use Rattle.text.proofs.Laws.{length_digits}
-use Rattle.notation.specs.declared.Appended.{Appended}
-use Rattle.notation.specs.declared.Appended.TheVariants.{Value, Over}
-use Rattle.notation.specs.Text.{digit_value, appended}
-use Rattle.notation.specs.Words.{number, onward, digits_of, is_prefixed, meaning_of}
+use Rattle.notation.specs.Text.{digit_of}
+use Rattle.notation.specs.Words.{Meaning, onward, with_digit, digits_of, is_prefixed, meaning_of}
 
 -- Digits behind digits.
 behind : (base m : ℕ) (w rest : List ℕ)
-    → ((more : ℕ) → digits_of base more w ≡ number m → digits_of base more (w ++ rest) ≡ digits_of base m rest) → (a : Appended)
-    → onward (λ more. digits_of base more w) a ≡ number m
-    → onward (λ more. digits_of base more (w ++ rest)) a ≡ digits_of base m rest
-behind base m w rest f (Value more) e = f more e
-behind base m w rest f Over e = never (cc)
+    → ((more : ℕ) → digits_of base more w ≡ Ok m → digits_of base more (w ++ rest) ≡ digits_of base m rest) → (first : Meaning)
+    → onward (λ more. digits_of base more w) first ≡ Ok m
+    → onward (λ more. digits_of base more (w ++ rest)) first ≡ digits_of base m rest
+behind base m w rest f (Ok more) e = f more e
+behind base m w rest f (Err problem) e = never (cc)
 
-more_digits : (base : ℕ) (w : List ℕ) (v m : ℕ) (rest : List ℕ) → digits_of base v w ≡ number m
+more_digits : (base : ℕ) (w : List ℕ) (v m : ℕ) (rest : List ℕ) → digits_of base v w ≡ Ok m
     → digits_of base v (w ++ rest) ≡ digits_of base m rest
 unfolding digits_of
 more_digits base [] v m rest e = let same : v ≡ m = cc in rw same
-more_digits base (b ∷ w) v m rest e =
-    ⊎_elim (λ (t : ltb (digit_value b) base ≡ true).
-    rw t (behind base m w rest (λ more f. more_digits base w more m rest f) (appended base v (digit_value b)) (rw t at e)))
-    (λ (t : ltb (digit_value b) base ≡ false). let e' = rw t at e in never (cc))
-    (either (ltb (digit_value b) base))
+more_digits base (b ∷ w) v m rest e = behind base m w rest (λ more f. more_digits base w more m rest f) (with_digit base v b) e
 
 -- One digit.
 digit_byte : (d : ℕ) → d < 10 → digit d ≡ 48 + d
 digit_byte d h = rw (lt-ltb d 10 h)
 
-digit_read : (d : ℕ) → d < 10 → digit_value (digit d) ≡ d
-digit_read d h = rw (digit_byte d h, le-ltb (48 + d) 48 (omega arith), lt-ltb (48 + d) 58 (omega arith)) (omega arith)
+digit_read : (d : ℕ) → d < 10 → digit_of 10 (digit d) ≡ Some d
+digit_read d h =
+    let same : 48 + d - 48 ≡ d = omega arith in rw (digit_byte d h, le-ltb (48 + d) 48 (omega arith), lt-ltb (48 + d) 58 (omega arith), same, lt-ltb d 10 h)
 
-one_digit : (v d : ℕ) → d < 10 → v * 10 + d < 2 ^ 64 → digits_of 10 v (digit d ∷ []) ≡ number (v * 10 + d)
+one_digit : (v d : ℕ) → d < 10 → v * 10 + d < 2 ^ 64 → digits_of 10 v (digit d ∷ []) ≡ Ok (v * 10 + d)
 unfolding digits_of
-one_digit v d h small = rw (digit_read d h, lt-ltb d 10 h, lt-ltb (v * 10 + d) (2 ^ 64) small)
+one_digit v d h small = rw (digit_read d h, lt-ltb (v * 10 + d) (2 ^ 64) small)
 
-digits_read : (k n : ℕ) → n < 10 ^ k → n < 2 ^ 64 → digits_of 10 0 (digits 10 k n) ≡ number n
+digits_read : (k n : ℕ) → n < 10 ^ k → n < 2 ^ 64 → digits_of 10 0 (digits 10 k n) ≡ Ok n
 unfolding digits digits_of
 digits_read zero n h small = let none : 0 ≡ n = omega arith in rw none
 digits_read (suc k) n h small =
@@ -54,7 +50,7 @@ digits_read (suc k) n h small =
     let whole : n / 10 * 10 + n % 10 ≡ n = omega arith in
     more_digits 10 (digits 10 k (n / 10)) 0 (n / 10) (digit (n % 10) ∷ []) (digits_read k (n / 10) (omega arith) (omega arith))
     ∙ one_digit (n / 10) (n % 10) (omega arith) (omega arith)
-    ∙ ap number whole
+    ∙ ap (λ n. Ok n) whole
 
 -- How many digits a number has.
 count_covers : (most n : ℕ) → n < 10 ^ most → n < 10 ^ decimal_count most n
@@ -109,10 +105,10 @@ pub some_decimal : (n : ℕ) → 0 < length (decimal n)
 unfolding decimal
 some_decimal n = rw (length_digits 10 (decimal_count 20 n) n) (omega (arith, some_digit 19 n))
 
-as_number : (n : ℕ) → n < 2 ^ 64 → digits_of 10 0 (decimal n) ≡ number n
+as_number : (n : ℕ) → n < 2 ^ 64 → digits_of 10 0 (decimal n) ≡ Ok n
 unfolding decimal
 as_number n h = digits_read (decimal_count 20 n) n (count_covers 20 n (omega arith)) h
 
-pub decimal_number : (n : ℕ) → n < 2 ^ 64 → meaning_of (decimal n) ≡ number n
+pub decimal_number : (n : ℕ) → n < 2 ^ 64 → meaning_of (decimal n) ≡ Ok n
 unfolding meaning_of
 decimal_number n h = rw (no_prefix (plain_decimal n)) (as_number n h)

@@ -2,21 +2,21 @@
 -- operation, a text gives what it holds.
 use Prim.Native.Nat.{ℕ, ◌+◌}
 use mathlib.Core.Path.{◌≡◌, refl, sym, ◌∙◌}
-use mathlib.Core.Bool.{true, false, ◌||◌}
+use mathlib.Core.Bool.{true, false}
 use mathlib.Core.Logic.{⊎_elim}
 use mathlib.Core.List.{List, [], ◌∷◌, ◌++◌}
-use borrow.Author.Tests.{eqb-true}
 use lib.Dec.{ltb, eqb}
 use lib.ListN.{length, drop}
-use Rattle.bits.proofs.Cases.{either, one_of_two}
+use Rattle.std.proofs.Common.{Ok, Err}
+use Rattle.bits.proofs.Cases.{either}
 use Rattle.operation.specs.Operation.{last_code}
 use Rattle.recording.specs.Recording.{field_count}
 use Rattle.notation.specs.declared.Begun.{Begun}
-use Rattle.notation.specs.declared.Step.{Step}
 use Rattle.notation.specs.declared.Step.TheVariants.{More}
-use Rattle.notation.specs.Words.{is_blank, ends_operation, Meaning, number, wrong, meaning_of}
+use Rattle.notation.specs.Words.{is_blank, ends_operation, Meaning, meaning_of}
 use Rattle.notation.specs.Places.{line_length}
-use Rattle.notation.specs.Reading.{added, ended_at, with_meaning, with_word, read_from}
+use Rattle.notation.specs.Reading.{Outcome, added, ended_at, with_meaning, with_word, read_from}
+use Rattle.notation.proofs.Reading.{end_no_blank}
 use Rattle.packed.specs.Content.{Content, uncommented, pieces, in_front, at_end, content_of_all, content_from}
 use Rattle.packed.proofs.Lines.{Inside, nothing, more}
 use Rattle.packed.proofs.Pieces.{uncommented_inside, uncommented_whole, pieces_before, pieces_last}
@@ -36,30 +36,22 @@ ended_anywhere rest begun at to =
     (either (eqb begun.count 0))
 
 -- Behind a word, where what follows each number agrees.
-both_words : (rest : Content) (begun : Begun) (word : List ℕ) (at to : ℕ) (f g : Begun → Step)
+both_words : (rest : Content) (begun : Begun) (word : List ℕ) (at to : ℕ) (f g : Begun → Outcome)
     → ((next : Begun) → in_front rest (f next) ≡ in_front rest (at_end (g next)))
     → in_front rest (with_word begun word at f) ≡ in_front rest (at_end (with_word begun word to g))
 both_words rest begun [] at to f g same = same begun
 both_words rest begun (b ∷ word) at to f g same = go (meaning_of (b ∷ word))
   where
     go : (m : Meaning) → in_front rest (with_meaning begun at f m) ≡ in_front rest (at_end (with_meaning begun to g m))
-    go (number n) = same (added begun n)
-    go (wrong problem) = refl
-
--- What ends an operation is no white space.
-end_no_blank : (b : ℕ) → ends_operation b ≡ true → is_blank b ≡ false
-end_no_blank b e =
-    ⊎_elim (λ (f : eqb b 35 || eqb b 47 ≡ true).
-    ⊎_elim (λ (g : eqb b 35 ≡ true). rw (eqb-true b 35 g)) (λ (g : eqb b 47 ≡ true). rw (eqb-true b 47 g)) (one_of_two (eqb b 35) (eqb b 47) f))
-    (λ (f : eqb b 10 ≡ true). rw (eqb-true b 10 f))
-    (one_of_two (eqb b 35 || eqb b 47) (eqb b 10) e)
+    go (Ok n) = same (added begun n)
+    go (Err problem) = refl
 
 ahead : {w : List ℕ} → Inside w → (rest : Content) (b : ℕ) (text : List ℕ) → ends_operation b ≡ true → (begun : Begun) (word : List ℕ) (at to : ℕ)
     → in_front rest (read_from begun word (w ++ (b ∷ text)) at) ≡ in_front rest (at_end (read_from begun word w to))
 unfolding read_from
 ahead nothing rest b text e begun word at to =
     rw (end_no_blank b e, e)
-    (both_words rest begun word at to (λ next. ended_at next (at + length word)) (λ next. More next) (λ next. ended_anywhere rest next (at + length word) 0))
+    (both_words rest begun word at to (λ next. ended_at next (at + length word)) (λ next. Ok (More next)) (λ next. ended_anywhere rest next (at + length word) 0))
 ahead (more {b = a} {w} f p) rest b text e begun word at to =
     ⊎_elim (λ (t : is_blank a ≡ true).
     rw t

@@ -3,6 +3,7 @@ use Prim.Native.Nat.{ℕ}
 use mathlib.Core.Path.{◌≡◌, refl, sym, ap, ◌∙◌}
 use mathlib.Core.Bool.{false}
 use mathlib.Core.List.{List, [], ◌∷◌, ◌++◌, map, append_assoc}
+use Rattle.std.proofs.Common.{Ok}
 use Rattle.number.proofs.Laws.{Bytes}
 use Rattle.text.specs.Text.{decimal}
 use Rattle.recording.specs.declared.Numbers.{Numbers}
@@ -22,7 +23,7 @@ with_line : (w rest : List ℕ) → Inside w
 unfolding content_of content_of_all uncommented
 with_line w rest p = rw (uncommented_inside p (10 ∷ rest), pieces_before p 10 (uncommented false rest) refl)
 
-read_back : (x : Numbers) → Writable x → at_end (read_from none_begun [] (decimal x.code ++ spaced (own_numbers x)) 0) ≡ Operation (as_read x) 0
+read_back : (x : Numbers) → Writable x → at_end (read_from none_begun [] (decimal x.code ++ spaced (own_numbers x)) 0) ≡ Ok (Operation (as_read x) 0)
 read_back x w = ap at_end (read_line x w) ∙ line_made x w
 
 nothing_held : content_of [] ≡ record { operations = []; ending = complete }

@@ -1,15 +1,14 @@
 -- What a whole text holds: with its comments left out, cut where operations end, each piece an operation or nothing. What
 -- `pack` writes are the bytes of these operations. docs/MANUAL.md, "Programs".
-use Rattle.std.specs.Prelude.{ℕ, Bool, true, false, cond, ◌&&◌, not, List, [], ◌∷◌, ◌++◌, eqb}
+use Rattle.std.specs.Prelude.{ℕ, Bool, true, false, cond, ◌&&◌, not, List, [], ◌∷◌, ◌++◌, eqb, Ok, Err}
 use Rattle.recording.specs.declared.Numbers.{Numbers}
 use Rattle.recording.specs.Operations.{recording_bytes}
 use Rattle.notation.specs.declared.Begun.{Begun}
 use Rattle.notation.specs.declared.Problem.{Problem}
-use Rattle.notation.specs.declared.Step.{Step}
-use Rattle.notation.specs.declared.Step.TheVariants.{More, Operation, Nothing, Wrong}
+use Rattle.notation.specs.declared.Step.TheVariants.{More, Operation, Nothing}
 use Rattle.notation.specs.Text.{numbers_line}
 use Rattle.notation.specs.Words.{ends_operation}
-use Rattle.notation.specs.Reading.{none_begun, ended_at, read_from}
+use Rattle.notation.specs.Reading.{Outcome, none_begun, ended_at, read_from}
 
 -- A text without what stands between a # and its line's end; whether its first byte stands there is told.
 unfoldable pub uncommented : Bool → List ℕ → List ℕ
@@ -37,18 +36,18 @@ pub record Content : Type 0 where
   pub ending : Ending
 
 -- What a piece comes to, in front of what the text holds behind it. The piece's end ends the operation.
-abbrev pub in_front : Content → Step → Content
-in_front rest (Operation x at) = record { operations = x ∷ rest.operations; ending = rest.ending }
-in_front rest (Nothing at) = rest
-in_front rest (Wrong problem at) = record { operations = []; ending = stopped problem }
-in_front rest (More begun) = rest
+abbrev pub in_front : Content → Outcome → Content
+in_front rest (Ok (Operation x at)) = record { operations = x ∷ rest.operations; ending = rest.ending }
+in_front rest (Ok (Nothing at)) = rest
+in_front rest (Ok (More begun)) = rest
+in_front rest (Err wrong) = record { operations = []; ending = stopped wrong.problem }
 
 -- What reading a piece came to, where the piece ends: an operation that was begun ends there.
-abbrev pub at_end : Step → Step
-at_end (More begun) = ended_at begun 0
-at_end (Operation x at) = Operation x at
-at_end (Nothing at) = Nothing at
-at_end (Wrong problem at) = Wrong problem at
+abbrev pub at_end : Outcome → Outcome
+at_end (Ok (More begun)) = ended_at begun 0
+at_end (Ok (Operation x at)) = Ok (Operation x at)
+at_end (Ok (Nothing at)) = Ok (Nothing at)
+at_end (Err wrong) = Err wrong
 
 -- What some pieces hold, one after another.
 unfoldable pub content_of_all : List (List ℕ) → Content

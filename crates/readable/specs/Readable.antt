@@ -1,7 +1,6 @@
 -- What `list` prints: an operation as a line that can be read, or as its own numbers. docs/MANUAL.md, "Programs".
-use Rattle.std.specs.Prelude.{ℕ, ◌+◌, ◌/◌, ◌%◌, ◌≤◌, ◌≡◌, Bool, cond, List, [], ◌∷◌, ◌++◌, eqb, leb, length}
+use Rattle.std.specs.Prelude.{ℕ, ◌+◌, ◌/◌, ◌%◌, Bool, cond, List, [], ◌∷◌, ◌++◌, eqb, leb, length}
 use Prim.Native.String.{String}
-use Rattle.number.specs.Number.{written}
 use Rattle.text.specs.Text.{bytes_of_text, decimal, hexadecimal}
 use Rattle.recording.specs.declared.Numbers.{Numbers}
 use Rattle.notation.specs.Text.{numbers_line}
@@ -147,16 +146,7 @@ readable_line x = readable_text x ++ bytes_of_text "\n"
 unfoldable pub line_of : Bool → Numbers → List ℕ
 line_of numbers x = cond numbers (numbers_line x) (readable_line x)
 
--- The output's room of 65536 bytes with an operation's line at a place. A line has at most 256 bytes; where so many have no
+-- What waits in an output's room of 65536 bytes after an operation's line. A line has at most 256 bytes; where so many have no
 -- room, nothing is written.
-unfoldable pub line_written : List ℕ → ℕ → Bool → Numbers → List ℕ
-line_written out at numbers x = cond (leb (at + 256) 65536) (written out at (line_of numbers x)) out
-
--- The place after it, which is the same where nothing is written.
-unfoldable pub line_end : ℕ → Bool → Numbers → ℕ
-line_end at numbers x = cond (leb (at + 256) 65536) (at + length (line_of numbers x)) at
-
--- What each part of a line promises: where its bytes have room at the place, they stand there with all else as it was, and the
--- answer is the place after them.
-pub record Put (out : List ℕ) (at : ℕ) (bytes : List ℕ) (place : ℕ) (after : List ℕ) : Type 0 where
-  pub held : at + length bytes ≤ length out → (place ≡ at + length bytes) × (after ≡ written out at bytes)
+unfoldable pub line_written : List ℕ → Bool → Numbers → List ℕ
+line_written out numbers x = cond (leb (length out + 256) 65536) (out ++ line_of numbers x) out

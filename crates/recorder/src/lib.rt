@@ -7,11 +7,11 @@ ghost use Rattle.recorder.specs.Step.{accepted, step_of};
 ghost use Rattle.recorder.specs.Result.{together};
 ghost use Rattle.recorder.specs.Lent.{lent_step};
 
-use answer::Answer;
+use answer::{Answer, Refusal};
 use change::decide;
 use operation::{Operation, operation_of, refusal};
 use room::apply;
-use state::{Loaded, State, load, store};
+use state::{State, load, store};
 
 // A step's answer, and the state as it leaves it; the room it leaves is the lent one.
 #[derive(Clone, Copy)]
@@ -37,19 +37,18 @@ fn accept(s: State, room: &mut [u64], o: Operation, cycles: u64) -> Stepped
 pub fn step(s: State, room: &mut [u64], o: Operation, cycles: u64) -> Stepped
     ensures { together result.answer result.state room.new ≡ step_of s o cycles room.old }
 {
-    let number = refusal(s, o, room.len());
-    if number == 0 {
-        accept(s, room, o, cycles)
-    } else {
-        Stepped {
-            answer: Answer::Refused(number),
+    match refusal(s, o, room.len()) {
+        None => accept(s, room, o, cycles),
+        Some(refusal) => Stepped {
+            answer: refusal.into(),
             state: s,
-        }
+        },
     }
 }
 
 // The same on a state that is lent as numbers, of an operation in numbers: the state is loaded and judged first, and stored where the
 // step left it. The operation is made here, so that its numbers come in registers or one by one.
+#[tactic(auto, unfolding(crate::specs::Lent::lent_step))]
 pub fn lent_step(
     words: &mut [u64],
     room: &mut [u64],
@@ -63,15 +62,10 @@ pub fn lent_step(
     ensures { together result words.new room.new ≡ lent_step words.old (operation_of code a b c d) cycles room.old }
 {
     let o = operation_of(code, a, b, c, d);
-    let loaded = load(&words[..]);
-    match loaded {
-        Loaded::Held(s) => {
-            let stepped = step(s, room, o, cycles);
-            let answer = stepped.answer;
-            let after = stepped.state;
-            store(words, after);
-            answer
-        }
-        Loaded::Unsound => Answer::Refused(7),
-    }
+    let Some(s) = load(words) else {
+        return Refusal::NotSound.into();
+    };
+    let stepped = step(s, room, o, cycles);
+    store(words, stepped.state);
+    stepped.answer
 }

@@ -8,15 +8,7 @@ use borrow.Author.Tests.{leb-true}
 use lib.Dec.{leb}
 use lib.ListN.{get_or}
 use Rattle.bits.proofs.Each.{each}
-use Rattle.number.specs.declared.Found.{Found}
-use Rattle.number.specs.declared.Found.TheVariants.{Value, Malformed, Ended}
 use Rattle.recording.specs.Recording.{field_counts, field_count}
-
--- What was found is no number: the way that `let .. else` leaves
-pub no_value : {P : Type 0} (f : Found) → ((n next : ℕ) → f ≡ Value n next → ⊥) → (f ≡ Malformed → P) → (f ≡ Ended → P) → P
-no_value (Value n next) h p q = absurd (h n next refl)
-no_value Malformed h p q = p refl
-no_value Ended h p q = q refl
 
 -- No code has more than four fields, since none of the list has, and past its end there is none
 abbrev small : List ℕ → Bool

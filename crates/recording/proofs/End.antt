@@ -4,28 +4,26 @@ use native.Mathlib.Omega.{arith}
 use mathlib.Core.Path.{◌≡◌, refl, sym, ap, ◌∙◌}
 use mathlib.Core.Logic.{◌≢◌}
 use mathlib.Core.List.{List}
-use Rattle.number.specs.declared.Found.{Found}
-use Rattle.number.specs.declared.Found.TheVariants.{Value, Malformed, Ended}
+use Rattle.number.specs.Number.{Found}
 use Rattle.number.specs.Number.{number_at, end_of_number}
 use Rattle.number.proofs.Window.{reach}
-use Rattle.recording.specs.Recording.{Several, got, bad, in_front, then_read, numbers_at, with_fields}
+use Rattle.recording.specs.Recording.{read_as, Several, in_front, then_read, numbers_at, with_fields}
 use Rattle.recording.specs.Run.{end_of, end_of_several}
+use Rattle.std.proofs.Common.{Ok, Err}
 
 in_front_lem : (n : ℕ) (r : Several) → end_of_several (in_front n r) ≡ end_of_several r
-in_front_lem n (got list next) = refl
-in_front_lem n (bad number place) = refl
+in_front_lem n (Ok (list, next)) = refl
+in_front_lem n (Err d) = refl
 
 -- By where the next number ends: those behind it are read from there on; and where there is none, there are not so many.
 module _ (k : ℕ) (bytes : List ℕ) (at : ℕ) where
-  read_on : (f : Found) → number_at bytes at ≡ f → end_of_number f ≢ 0 → end_of_several (then_read (numbers_at k bytes) at f) ≡ end_of_several (numbers_at k bytes (end_of_number f))
-  read_on (Value n next) e h = in_front_lem n (numbers_at k bytes next)
-  read_on Malformed e h = absurd (h refl)
-  read_on Ended e h = absurd (h refl)
+  read_on : (f : Found) → number_at bytes at ≡ f → end_of_number f ≢ 0 → end_of_several (then_read (numbers_at k bytes) (read_as at f)) ≡ end_of_several (numbers_at k bytes (end_of_number f))
+  read_on (Ok (n, next)) e h = in_front_lem n (numbers_at k bytes next)
+  read_on (Err fault) e h = absurd (h refl)
 
-  read_none : (f : Found) → number_at bytes at ≡ f → end_of_number f ≡ 0 → end_of_several (then_read (numbers_at k bytes) at f) ≡ 0
-  read_none (Value n next) e h = absurd (omega (arith, (reach bytes at n next e).further, h))
-  read_none Malformed e h = refl
-  read_none Ended e h = refl
+  read_none : (f : Found) → number_at bytes at ≡ f → end_of_number f ≡ 0 → end_of_several (then_read (numbers_at k bytes) (read_as at f)) ≡ 0
+  read_none (Ok (n, next)) e h = absurd (omega (arith, (reach bytes at n next e).further, h))
+  read_none (Err fault) e h = refl
 
   pub end_on : (next : ℕ) → next ≡ end_of_number (number_at bytes at) → next ≢ 0 → end_of_several (numbers_at (suc k) bytes at) ≡ end_of_several (numbers_at k bytes next)
   unfolding numbers_at
@@ -36,5 +34,5 @@ module _ (k : ℕ) (bytes : List ℕ) (at : ℕ) where
   end_none next e z = read_none (number_at bytes at) refl (sym e ∙ z)
 
 pub end_of_fields : (code : ℕ) (r : Several) → end_of (with_fields code r) ≡ end_of_several r
-end_of_fields code (got list next) = refl
-end_of_fields code (bad number place) = refl
+end_of_fields code (Ok (list, next)) = refl
+end_of_fields code (Err d) = refl

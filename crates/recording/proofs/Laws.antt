@@ -9,16 +9,16 @@ use borrow.Author.Tests.{lt-ltb, le-ltb}
 use lib.ListN.{length, take, drop, get_or, length-append, length-drop, drop_of_length-le}
 use lib.Seq.{drop-drop, drop-append_seam, length-take-le}
 use Rattle.bits.proofs.Cases.{below_or_not}
-use Rattle.number.specs.declared.Found.{Found}
-use Rattle.number.specs.declared.Found.TheVariants.{Value, Malformed, Ended}
+use Rattle.number.specs.Number.{Found}
 use Rattle.number.specs.Number.{number_at, bytes_of}
 use Rattle.number.proofs.Laws.{read_written, what_reads, Bytes}
 use Rattle.operation.specs.Operation.{last_code}
 use Rattle.recording.specs.declared.Numbers.{Numbers}
-use Rattle.recording.specs.declared.Reading.TheVariants.{Operation}
-use Rattle.recording.specs.Recording.{field_count, Several, got, bad, in_front, then_read, numbers_at, numbers_of, with_fields, after_code, operation_at, bytes_of_all, own_numbers, operation_bytes}
+use Rattle.recording.specs.Recording.{read_as, field_count, Several, in_front, then_read, numbers_at, numbers_of, with_fields, after_code, operation_at, bytes_of_all, own_numbers, operation_bytes}
 use Rattle.recording.specs.Operations.{as_read, recording_bytes, Holds, ends, reads}
 use Rattle.recording.proofs.Cases.{fields_at_most}
+use Rattle.std.proofs.Common.{Ok, Err}
+use Rattle.bits.proofs.Pairs.{ok_parts}
 
 -- Each element is below 2^64
 abbrev pub Words : List ℕ → Type 0
@@ -53,7 +53,7 @@ past s at xs b e = sym (drop-drop (length xs) at s) ∙ ap (drop (length xs)) e 
 
 -- Several numbers, written, read back
 read_all : (list s : List ℕ) (at : ℕ) (b : List ℕ) → Words list → drop at s ≡ bytes_of_all list ++ b
-    → numbers_at (length list) s at ≡ got list (at + length (bytes_of_all list))
+    → numbers_at (length list) s at ≡ Ok (list, at + length (bytes_of_all list))
 unfolding numbers_at bytes_of_all
 read_all [] s at b w e = rw add-zero
 read_all (n ∷ list) s at b w e =
@@ -66,7 +66,7 @@ own_length : (x : Numbers) → length (own_numbers x) ≡ suc (field_count x.cod
 own_length x = ap suc (length-take-le (field_count x.code) (x.a ∷ x.b ∷ x.c ∷ x.d ∷ []) (fields_at_most x.code))
 
 pub read_written_operation : (s : List ℕ) (at : ℕ) (x : Numbers) (b : List ℕ) → Writable x → drop at s ≡ operation_bytes x ++ b
-    → operation_at s at ≡ Operation (as_read x) (at + length (operation_bytes x))
+    → operation_at s at ≡ Ok (as_read x, at + length (operation_bytes x))
 unfolding operation_at operation_bytes bytes_of_all
 read_written_operation s at x b w e =
     let own = bytes_of_all (own_numbers x) in
@@ -86,24 +86,22 @@ record ReadAll (k : ℕ) (s : List ℕ) (at : ℕ) (list : List ℕ) (next : ℕ
 never : {A : Type 0} → ◌≡◌ {A = ℕ} 0 1 → A
 never e = absurd (omega arith)
 
-pub front_inv : (n : ℕ) (r : Several) (list : List ℕ) (next : ℕ) → in_front n r ≡ got list next
-    → (l : List ℕ) × (r ≡ got l next) × (list ≡ n ∷ l)
-front_inv n (got l p) list next e = (l, cc, cc)
-front_inv n (bad number p) list next e = never (cc)
+pub front_inv : (n : ℕ) (r : Several) (list : List ℕ) (next : ℕ) → in_front n r ≡ Ok (list, next)
+    → (l : List ℕ) × (r ≡ Ok (l, next)) × (list ≡ n ∷ l)
+front_inv n (Ok (l, p)) list next e = let parts = ok_parts (n ∷ l) list p next e in (l, rw parts.1 refl, sym parts.0)
+front_inv n (Err d) list next e = never (cc)
 
-pub then_inv : (rest : ℕ → Several) (at : ℕ) (f : Found) (list : List ℕ) (next : ℕ) → then_read rest at f ≡ got list next
-    → (n : ℕ) × (p : ℕ) × (f ≡ Value n p) × (in_front n (rest p) ≡ got list next)
-then_inv rest at (Value n p) list next e = (n, p, refl, e)
-then_inv rest at Malformed list next e = never (cc)
-then_inv rest at Ended list next e = never (cc)
+pub then_inv : (rest : ℕ → Several) (at : ℕ) (f : Found) (list : List ℕ) (next : ℕ) → then_read rest (read_as at f) ≡ Ok (list, next)
+    → (n : ℕ) × (p : ℕ) × (f ≡ Ok (n, p)) × (in_front n (rest p) ≡ Ok (list, next))
+then_inv rest at (Ok (n, p)) list next e = (n, p, refl, e)
+then_inv rest at (Err fault) list next e = never (cc)
 
 reads_all : (k : ℕ) (s : List ℕ) (at : ℕ) (list : List ℕ) (next : ℕ) → Bytes s → at ≤ length s
-    → numbers_at k s at ≡ got list next → ReadAll k s at list next
+    → numbers_at k s at ≡ Ok (list, next) → ReadAll k s at list next
 unfolding numbers_at bytes_of_all
 reads_all zero s at list next h f e =
-    let none : [] ≡ list = cc in
-    let same : at ≡ next = cc in
-    rw (← none, ← same)
+    let parts = ok_parts [] list at next e in
+    rw (← parts.0, ← parts.1)
     (record { count = refl; small = λ i. omega arith; place = sym (add-zero at); bytes = refl; within = f })
 reads_all (suc k) s at list next h f e =
     let i = then_inv (numbers_at k s) at (number_at s at) list next e in
@@ -144,28 +142,27 @@ pub record ReadOperation (s : List ℕ) (at : ℕ) (x : Numbers) (next : ℕ) : 
   pub further : at < next
   pub within : next ≤ length s
 
-pub fields_inv : (code : ℕ) (r : Several) (x : Numbers) (next : ℕ) → with_fields code r ≡ Operation x next
-    → (list : List ℕ) × (r ≡ got list next) × (numbers_of code list ≡ x)
-fields_inv code (got list p) x next e = (list, cc, cc)
-fields_inv code (bad number p) x next e = never (cc)
+pub fields_inv : (code : ℕ) (r : Several) (x : Numbers) (next : ℕ) → with_fields code r ≡ Ok (x, next)
+    → (list : List ℕ) × (r ≡ Ok (list, next)) × (numbers_of code list ≡ x)
+fields_inv code (Ok (list, p)) x next e = let parts = ok_parts (numbers_of code list) x p next e in (list, rw parts.1 refl, parts.0)
+fields_inv code (Err d) x next e = never (cc)
 
-code_inv : (s : List ℕ) (at : ℕ) (f : Found) (x : Numbers) (next : ℕ) → after_code s at f ≡ Operation x next
-    → (code : ℕ) × (p : ℕ) × (f ≡ Value code p) × (code ≤ last_code)
-    × (with_fields code (numbers_at (suc (field_count code)) s p) ≡ Operation x next)
-code_inv s at (Value code p) x next e =
+code_inv : (s : List ℕ) (at : ℕ) (f : Found) (x : Numbers) (next : ℕ) → after_code s at (read_as at f) ≡ Ok (x, next)
+    → (code : ℕ) × (p : ℕ) × (f ≡ Ok (code, p)) × (code ≤ last_code)
+    × (with_fields code (numbers_at (suc (field_count code)) s p) ≡ Ok (x, next))
+code_inv s at (Ok (code, p)) x next e =
     ⊎_elim (λ g. let v = rw (lt-ltb last_code code g) at e in never (cc))
     (λ l. (code, p, refl, l, rw (le-ltb last_code code l) at e))
     (below_or_not last_code code)
-code_inv s at Malformed x next e = never (cc)
-code_inv s at Ended x next e = never (cc)
+code_inv s at (Err fault) x next e = never (cc)
 
 read_bytes : (code : ℕ) (list : List ℕ) → length list ≡ suc (field_count code)
     → operation_bytes (numbers_of code list) ≡ bytes_of code ++ bytes_of_all list
 unfolding operation_bytes bytes_of_all
 read_bytes code list e = ap (λ (l : List ℕ). bytes_of code ++ bytes_of_all l) (own_back code list e)
 
-was_read : (s : List ℕ) (at code p : ℕ) (list : List ℕ) (next : ℕ) → Bytes s → number_at s at ≡ Value code p → code ≤ last_code
-    → numbers_at (suc (field_count code)) s p ≡ got list next → ReadOperation s at (numbers_of code list) next
+was_read : (s : List ℕ) (at code p : ℕ) (list : List ℕ) (next : ℕ) → Bytes s → number_at s at ≡ Ok (code, p) → code ≤ last_code
+    → numbers_at (suc (field_count code)) s p ≡ Ok (list, next) → ReadOperation s at (numbers_of code list) next
 was_read s at code p list next h e k v =
     let one = what_reads s at code p h e in
     let more = reads_all (suc (field_count code)) s p list next h one.within v in
@@ -181,7 +178,7 @@ was_read s at code p list next h e k v =
       within = more.within;
     }
 
-pub what_was_read : (s : List ℕ) (at : ℕ) (x : Numbers) (next : ℕ) → Bytes s → operation_at s at ≡ Operation x next
+pub what_was_read : (s : List ℕ) (at : ℕ) (x : Numbers) (next : ℕ) → Bytes s → operation_at s at ≡ Ok (x, next)
     → ReadOperation s at x next
 unfolding operation_at
 what_was_read s at x next h e =
@@ -223,7 +220,5 @@ one_content h (ends f) (ends g) = refl
 one_content {s} {at} h (ends f) (reads {next = next} {x = x} e r) = let one = what_was_read s at x next h e in absurd (omega arith)
 one_content {s} {at} h (reads {next = next} {x = x} e r) (ends f) = let one = what_was_read s at x next h e in absurd (omega arith)
 one_content {s} h (reads {next = n} {x = x} {list = l} e r) (reads {next = m} {x = y} d t) =
-    let both : Operation x n ≡ Operation y m = sym e ∙ d in
-    let same : x ≡ y = cc in
-    let place : n ≡ m = cc in
+    let (same, place) = ok_parts x y n m (sym e ∙ d) in
     rw same (ap (λ (list : List Numbers). y ∷ list) (one_content h (subst (λ (i : ℕ). Holds s i l) place r) t))

@@ -7,11 +7,12 @@ use mathlib.Core.List.{List}
 use Rattle.number.proofs.Laws.{Bytes}
 use Rattle.recording.specs.declared.Numbers.{Numbers}
 use Rattle.recording.specs.declared.Passage.{Passage}
-use Rattle.recording.specs.declared.Reading.{Reading}
-use Rattle.recording.specs.declared.Reading.TheVariants.{Operation, Refused}
+use Rattle.recording.specs.Recording.{Reading}
 use Rattle.recording.specs.Recording.{operation_at}
 use Rattle.recording.specs.Run.{end_of, passed_by, passed_from}
 use Rattle.recording.proofs.Laws.{what_was_read}
+use Rattle.std.proofs.Common.{Ok, Err}
+use Rattle.recording.specs.declared.Damage.{Damage}
 
 -- After so many operations that were passed before.
 abbrev pub ahead : ℕ → Passage → Passage
@@ -21,12 +22,12 @@ module _ (bytes : List ℕ) (each : Bytes bytes) (at : ℕ) where
   -- By where the operation ends.
   read_on : (most : ℕ) (r : Reading) → operation_at bytes at ≡ r → end_of r ≢ 0
       → passed_by (passed_from most bytes) at r ≡ record { count = suc (passed_from most bytes (end_of r)).count; at = (passed_from most bytes (end_of r)).at }
-  read_on most (Operation x next) e h = refl
-  read_on most (Refused number place) e h = absurd (h refl)
+  read_on most (Ok (x, next)) e h = refl
+  read_on most (Err d) e h = absurd (h refl)
 
   read_none : (most : ℕ) (r : Reading) → operation_at bytes at ≡ r → end_of r ≡ 0 → passed_by (passed_from most bytes) at r ≡ record { count = 0; at = at }
-  read_none most (Operation x next) e h = absurd (omega (arith, (what_was_read bytes at x next each e).further, h))
-  read_none most (Refused number place) e h = refl
+  read_none most (Ok (x, next)) e h = absurd (omega (arith, (what_was_read bytes at x next each e).further, h))
+  read_none most (Err d) e h = refl
 
   pub one_passed : (most count next : ℕ) → next ≡ end_of (operation_at bytes at) → next ≢ 0
       → ahead (count + 1) (passed_from most bytes next) ≡ ahead count (passed_from (suc most) bytes at)
@@ -44,7 +45,7 @@ module _ (bytes : List ℕ) (each : Bytes bytes) (at : ℕ) where
   none_passed most next e z = read_none most (operation_at bytes at) refl (sym e ∙ z)
 
 -- What one operation keeps, by how many were passed and the place.
-module _ (bytes : List ℕ) (P : ℕ → ℕ → Type 0) (step : (count at : ℕ) (x : Numbers) (next : ℕ) → P count at → operation_at bytes at ≡ Operation x next → P (suc count) next) where
+module _ (bytes : List ℕ) (P : ℕ → ℕ → Type 0) (step : (count at : ℕ) (x : Numbers) (next : ℕ) → P count at → operation_at bytes at ≡ Ok (x, next) → P (suc count) next) where
   pub kept : (most count at : ℕ) → P count at → P (count + (passed_from most bytes at).count) (passed_from most bytes at).at
   unfolding passed_from
   kept zero count at h = let none : count ≡ count + 0 = omega arith in subst (λ (n : ℕ). P n at) none h
@@ -53,17 +54,16 @@ module _ (bytes : List ℕ) (P : ℕ → ℕ → Type 0) (step : (count at : ℕ
       go : (r : Reading) → operation_at bytes at ≡ r
           → ((c place : ℕ) → P c place → P (c + (passed_from most bytes place).count) (passed_from most bytes place).at)
           → P (count + (passed_by (passed_from most bytes) at r).count) (passed_by (passed_from most bytes) at r).at
-      go (Operation x next) e more =
+      go (Ok (x, next)) e more =
           let p = passed_from most bytes next in
           let sum : suc count + p.count ≡ count + suc p.count = omega arith in
           subst (λ (n : ℕ). P n p.at) sum (more (suc count) next (step count at x next h e))
-      go (Refused number place) e more = let none : count ≡ count + 0 = omega arith in subst (λ (n : ℕ). P n at) none h
+      go (Err d) e more = let none : count ≡ count + 0 = omega arith in subst (λ (n : ℕ). P n at) none h
 
 -- An operation cannot be read at a place.
 pub record Unread (bytes : List ℕ) (at : ℕ) : Type 0 where
-  pub number : ℕ
-  pub place : ℕ
-  pub refused : operation_at bytes at ≡ Refused number place
+  pub damage : Damage
+  pub refused : operation_at bytes at ≡ Err damage
 
 -- At most so many are passed, and fewer only before what cannot be read.
 pub record Ends (bytes : List ℕ) (most : ℕ) (p : Passage) : Type 0 where
@@ -76,10 +76,10 @@ ends bytes zero at = record { at_most = omega arith; stops = λ h. absurd (omega
 ends bytes (suc most) at = go (operation_at bytes at) refl (ends bytes most)
   where
     go : (r : Reading) → operation_at bytes at ≡ r → ((place : ℕ) → Ends bytes most (passed_from most bytes place)) → Ends bytes (suc most) (passed_by (passed_from most bytes) at r)
-    go (Operation x next) e more =
+    go (Ok (x, next)) e more =
         let m = more next in record { at_most = omega (arith, m.at_most); stops = λ h. m.stops (omega (arith, h)) }
-    go (Refused number place) e more =
-        record { at_most = omega arith; stops = λ h. record { number = number; place = place; refused = e } }
+    go (Err d) e more =
+        record { at_most = omega arith; stops = λ h. record { damage = d; refused = e } }
 
 -- As many as were passed can be passed.
 pub as_many : (bytes : List ℕ) (fewer most at : ℕ) → fewer ≤ (passed_from most bytes at).count → (passed_from fewer bytes at).count ≡ fewer
@@ -92,5 +92,5 @@ as_many bytes (suc fewer) (suc most) at h = go (operation_at bytes at) refl (as_
         → ((place : ℕ) → fewer ≤ (passed_from most bytes place).count → (passed_from fewer bytes place).count ≡ fewer)
         → suc fewer ≤ (passed_by (passed_from most bytes) at r).count
         → (passed_by (passed_from fewer bytes) at r).count ≡ suc fewer
-    go (Operation x next) e more g = ap suc (more next (omega (arith, g)))
-    go (Refused number place) e more g = absurd (omega (arith, g))
+    go (Ok (x, next)) e more g = ap suc (more next (omega (arith, g)))
+    go (Err d) e more g = absurd (omega (arith, g))

@@ -8,15 +8,15 @@ use lib.ListN.{length}
 use borrow.Author.Tests.{le-leb, lt-leb}
 use Rattle.bits.proofs.Cases.{below_or_not}
 use Rattle.recording.specs.declared.Numbers.{Numbers}
-use Rattle.recording.specs.declared.Reading.{Reading}
-use Rattle.recording.specs.declared.Reading.TheVariants.{Operation, Refused}
+use Rattle.recording.specs.Recording.{Reading}
 use Rattle.recording.specs.Recording.{operation_at}
 use Rattle.recording.proofs.Window.{operation_reach}
 use Rattle.recording.specs.Run.{then_on, read_from, readings, place_after}
+use Rattle.std.proofs.Common.{Ok, Err}
 
-same_on : (a b : ℕ → List Reading) (r : Reading) → ((x : Numbers) (next : ℕ) → r ≡ Operation x next → a next ≡ b next) → then_on a r ≡ then_on b r
-same_on a b (Operation x next) same = ap (λ (rest : List Reading). Operation x next ∷ rest) (same x next refl)
-same_on a b (Refused number place) same = refl
+same_on : (a b : ℕ → List Reading) (r : Reading) → ((x : Numbers) (next : ℕ) → r ≡ Ok (x, next) → a next ≡ b next) → then_on a r ≡ then_on b r
+same_on a b (Ok (x, next)) same = ap (λ (rest : List Reading). Ok (x, next) ∷ rest) (same x next refl)
+same_on a b (Err d) same = refl
 
 -- As many readings as bytes are left are enough.
 enough : (j k : ℕ) (bytes : List ℕ) (at : ℕ) → length bytes ≤ at + j → length bytes ≤ at + k → read_from j bytes at ≡ read_from k bytes at
@@ -55,10 +55,10 @@ one_left bytes at h =
     ap (λ (k : ℕ). read_from k bytes at) some ∙ rw (lt-leb (length bytes) at h) (go (operation_at bytes at) refl)
   where
     go : (r : Reading) → operation_at bytes at ≡ r → then_on (read_from (length bytes - at - 1) bytes) r ≡ r ∷ left bytes (place_after bytes r)
-    go (Operation x next) e =
+    go (Ok (x, next)) e =
         let (further, within) = operation_reach bytes at x next (omega arith) e in
-        ap (λ (rest : List Reading). Operation x next ∷ rest) (enough (length bytes - at - 1) (length bytes - next) bytes next (omega arith) (omega arith))
-    go (Refused number place) e = ap (λ (rest : List Reading). Refused number place ∷ rest) (sym (none_left bytes (length bytes) (omega arith)))
+        ap (λ (rest : List Reading). Ok (x, next) ∷ rest) (enough (length bytes - at - 1) (length bytes - next) bytes next (omega arith) (omega arith))
+    go (Err d) e = ap (λ (rest : List Reading). Err d ∷ rest) (sym (none_left bytes (length bytes) (omega arith)))
 
 -- Reading goes on further on, and within the run.
 pub goes_further : (bytes : List ℕ) (at : ℕ) → at < length bytes
@@ -66,8 +66,8 @@ pub goes_further : (bytes : List ℕ) (at : ℕ) → at < length bytes
 goes_further bytes at h = go (operation_at bytes at) refl
   where
     go : (r : Reading) → operation_at bytes at ≡ r → (at < place_after bytes r) × (place_after bytes r ≤ length bytes)
-    go (Operation x next) e = let (further, within) = operation_reach bytes at x next (omega arith) e in (omega arith, within)
-    go (Refused number place) e = (h, omega arith)
+    go (Ok (x, next)) e = let (further, within) = operation_reach bytes at x next (omega arith) e in (omega arith, within)
+    go (Err d) e = (h, omega arith)
 
 -- Each operation has two bytes at least, but for a last one that cannot be read.
 pub half : (k : ℕ) (bytes : List ℕ) (at : ℕ) → 2 * length (read_from k bytes at) ≤ length bytes - at + 1
@@ -81,7 +81,7 @@ half (suc k) bytes at =
     go : at < length bytes → ((next : ℕ) → 2 * length (read_from k bytes next) ≤ length bytes - next + 1) → (r : Reading)
         → operation_at bytes at ≡ r
         → 2 * length (then_on (read_from k bytes) r) ≤ length bytes - at + 1
-    go l rest (Operation x next) e =
+    go l rest (Ok (x, next)) e =
         let (further, within) = operation_reach bytes at x next (omega arith) e in
         let behind = rest next in omega arith
-    go l rest (Refused number place) e = omega arith
+    go l rest (Err d) e = omega arith

@@ -4,12 +4,9 @@ use mathlib.Core.Path.{◌≡◌, refl, sym, ap, ◌∙◌}
 use mathlib.Core.List.{List, [], ◌∷◌, ◌++◌}
 use native.Mathlib.Omega.{arith}
 use lib.ListN.{length, get_or, set, length-append}
-use Rattle.number.specs.declared.Found.{Found}
-use Rattle.number.specs.declared.Found.TheVariants.{Value}
-use Rattle.number.specs.Number.{number_at}
-use Rattle.recording.specs.declared.Reading.TheVariants.{Operation}
-use Rattle.recording.specs.Recording.{Several, got, bad, in_front, numbers_at, numbers_of, with_fields}
-use Rattle.recording.proofs.Cases.{no_value}
+use Rattle.std.proofs.Common.{Result, Ok, Err}
+use Rattle.recording.specs.declared.Damage.{Damage}
+use Rattle.recording.specs.Recording.{Several, in_front, number_from, numbers_at, numbers_of, with_fields}
 
 abbrev in_front_of : List ℕ → Several → Several
 in_front_of [] rest = rest
@@ -19,13 +16,13 @@ one_more : (list : List ℕ) (n : ℕ) (rest : Several) → in_front_of list (in
 one_more [] n rest = refl
 one_more (m ∷ list) n rest = ap (in_front m) (one_more list n rest)
 
-all : (list : List ℕ) (next : ℕ) → in_front_of list (got [] next) ≡ got list next
+all : (list : List ℕ) (next : ℕ) → in_front_of list (Ok ([], next)) ≡ Ok (list, next)
 all [] next = refl
 all (m ∷ list) next = ap (in_front m) (all list next)
 
-ended : (list : List ℕ) (number at : ℕ) → in_front_of list (bad number at) ≡ bad number at
-ended [] number at = refl
-ended (m ∷ list) number at = ap (in_front m) (ended list number at)
+ended : (list : List ℕ) (d : Damage) → in_front_of list (Err d) ≡ Err d
+ended [] d = refl
+ended (m ∷ list) d = ap (in_front m) (ended list d)
 
 -- Numbers of a recording that were read from a place on, and the place where reading goes on.
 pub record SoFar (bytes : List ℕ) (start : ℕ) : Type 0 where
@@ -39,27 +36,26 @@ none_rest bytes start k count e = ap (λ (n : ℕ). numbers_at n bytes start) (o
 abbrev pub none_yet : (bytes : List ℕ) (start : ℕ) → SoFar bytes start
 none_yet bytes start = record { list = []; at = start; rest = none_rest bytes start }
 
-module _ {bytes : List ℕ} {start : ℕ} (h : SoFar bytes start) {found : Found} (e : found ≡ number_at bytes h.at) where
-  pub next-rest : {n next : ℕ} → found ≡ Value n next → (k count : ℕ) → count ≡ length (h.list ++ (n ∷ [])) + k
+module _ {bytes : List ℕ} {start : ℕ} (h : SoFar bytes start) {found : Result (ℕ × ℕ) Damage} (e : found ≡ number_from bytes h.at) where
+  pub next-rest : {n next : ℕ} → found ≡ Ok (n, next) → (k count : ℕ) → count ≡ length (h.list ++ (n ∷ [])) + k
       → numbers_at count bytes start ≡ in_front_of (h.list ++ (n ∷ [])) (numbers_at k bytes next)
   unfolding numbers_at
   next-rest {n = n} {next = next} m k count size =
       h.rest (suc k) count (omega (arith, length-append h.list (n ∷ []))) ∙ rw (← e, m) (one_more h.list n (numbers_at k bytes next))
 
-  abbrev pub and_one : {n next : ℕ} → found ≡ Value n next → SoFar bytes start
+  abbrev pub and_one : {n next : ℕ} → found ≡ Ok (n, next) → SoFar bytes start
   and_one {n = n} {next = next} m = record { list = h.list ++ (n ∷ []); at = next; rest = next-rest m }
 
   -- It was no number, and more were asked for than were read.
-  pub and_none : ((n next : ℕ) → found ≡ Value n next → ⊥) → (count : ℕ) → length h.list < count
-      → numbers_at count bytes start ≡ bad 1 h.at
+  pub and_none : {d : Damage} → found ≡ Err d → (count : ℕ) → length h.list < count
+      → numbers_at count bytes start ≡ Err d
   unfolding numbers_at
-  and_none none count more =
-      h.rest (suc (count - length h.list - 1)) count (omega arith)
-      ∙ no_value found none (λ m. rw (← e, m) (ended h.list 1 h.at)) (λ m. rw (← e, m) (ended h.list 1 h.at))
+  and_none {d = d} m count more =
+      h.rest (suc (count - length h.list - 1)) count (omega arith) ∙ rw (← e, m) (ended h.list d)
 
 -- They are all that were asked for.
 pub and_all : {bytes : List ℕ} {start : ℕ} (h : SoFar bytes start) (count : ℕ) → count ≡ length h.list
-    → numbers_at count bytes start ≡ got h.list h.at
+    → numbers_at count bytes start ≡ Ok (h.list, h.at)
 unfolding numbers_at
 and_all h count e = h.rest 0 count (omega arith) ∙ all h.list h.at
 
@@ -94,10 +90,10 @@ behind (x ∷ array) (y ∷ list) n same room zero = same zero
 behind (x ∷ array) (y ∷ list) n same room (suc k) = behind array list n (λ j. same (suc j)) (omega arith) k
 
 module _ {bytes : List ℕ} {start : ℕ} {array : List ℕ} {next i : ℕ} (h : Held bytes start array next i) where
-  pub held_one : {found : Found} → found ≡ number_at bytes next → {n after : ℕ} → found ≡ Value n after → i < length array
+  pub held_one : {found : Result (ℕ × ℕ) Damage} → found ≡ number_from bytes next → {n after : ℕ} → found ≡ Ok (n, after) → i < length array
       → Held bytes start (set array i n) after (i + 1)
   held_one {found} e {n} {after} m room =
-      let there : found ≡ number_at bytes h.read.at = rw h.place e in
+      let there : found ≡ number_from bytes h.read.at = rw h.place e in
       record {
         read = and_one h.read there m;
         size = omega (arith, length-append h.read.list (n ∷ []), h.size);
@@ -106,12 +102,11 @@ module _ {bytes : List ℕ} {start : ℕ} {array : List ℕ} {next i : ℕ} (h :
       }
 
   -- One of those that were asked for is none, or they are all.
-  pub held_bad : {found : Found} → found ≡ number_at bytes next → ((n next : ℕ) → found ≡ Value n next → ⊥) → (count : ℕ) → i < count
-      → numbers_at count bytes start ≡ bad 1 next
-  held_bad {found} e none count more =
-      let there : found ≡ number_at bytes h.read.at = rw h.place e in
-      and_none h.read there none count (omega (arith, h.size)) ∙ ap (bad 1) h.place
+  pub held_bad : {found : Result (ℕ × ℕ) Damage} → found ≡ number_from bytes next → {d : Damage} → found ≡ Err d → (count : ℕ) → i < count
+      → numbers_at count bytes start ≡ Err d
+  held_bad {found} e m count more =
+      let there : found ≡ number_from bytes h.read.at = rw h.place e in and_none h.read there m count (omega (arith, h.size))
 
-  pub held_all : (code count : ℕ) → count ≡ i → with_fields code (numbers_at count bytes start) ≡ Operation (numbers_of code array) next
+  pub held_all : (code count : ℕ) → count ≡ i → with_fields code (numbers_at count bytes start) ≡ Ok (numbers_of code array, next)
   held_all code count e =
       rw (and_all h.read count (omega (arith, h.size)), h.same 0, h.same 1, h.same 2, h.same 3, h.same 4, h.place)

@@ -2,8 +2,8 @@
 -- "Recordings".
 use Rattle.std.specs.Prelude.{ℕ, ◌≤◌, ◌≡◌, cond, List, [], ◌∷◌, ◌++◌, leb, length, drop}
 use Rattle.recording.specs.declared.Numbers.{Numbers}
-use Rattle.recording.specs.declared.Reading.TheVariants.{Operation}
 use Rattle.recording.specs.Recording.{numbers_of, own_numbers, operation_at, operation_bytes}
+use Rattle.std.specs.Prelude.{Ok}
 
 -- An operation as a reader gives it: 0 for the numbers beyond its own fields.
 abbrev pub as_read : Numbers → Numbers
@@ -23,5 +23,5 @@ recording_bytes (x ∷ list) = operation_bytes x ++ recording_bytes list
 -- those after it.
 pub data Holds (bytes : List ℕ) : ℕ → List Numbers → Type 0 where
   ends : {at : ℕ} → length bytes ≤ at → Holds bytes at []
-  reads : {at next : ℕ} {x : Numbers} {list : List Numbers} → operation_at bytes at ≡ Operation x next → Holds bytes next list
+  reads : {at next : ℕ} {x : Numbers} {list : List Numbers} → operation_at bytes at ≡ Ok (x, next) → Holds bytes next list
       → Holds bytes at (x ∷ list)

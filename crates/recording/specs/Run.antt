@@ -1,16 +1,14 @@
 -- What a recording holds, or a lent run of recorded operations: all that is read from its first byte on, and where it ends.
 -- Document 02, "Two" and "Eight"; docs/MANUAL.md, "Batches" and "Comparing recordings".
-use Rattle.std.specs.Prelude.{ℕ, zero, suc, cond, List, [], ◌∷◌, leb, length}
+use Rattle.std.specs.Prelude.{ℕ, zero, suc, cond, List, [], ◌∷◌, leb, length, Ok, Err}
 use Rattle.recording.specs.declared.Passage.{Passage}
-use Rattle.recording.specs.declared.Reading.{Reading}
-use Rattle.recording.specs.declared.Reading.TheVariants.{Operation, Refused}
-use Rattle.recording.specs.Recording.{Several, got, bad, operation_at}
+use Rattle.recording.specs.Recording.{Reading, Several, operation_at}
 
 -- What was read, and behind it what is read from the place after it on: nothing, where reading was refused, since that place
 -- is then not known.
 abbrev pub then_on : (ℕ → List Reading) → Reading → List Reading
-then_on rest (Operation x next) = Operation x next ∷ rest next
-then_on rest (Refused number place) = Refused number place ∷ []
+then_on rest (Ok (x, next)) = Ok (x, next) ∷ rest next
+then_on rest (Err d) = Err d ∷ []
 
 -- What is read from a place on, at most so many times: none at the end of the bytes.
 unfoldable pub read_from : ℕ → List ℕ → ℕ → List Reading
@@ -24,23 +22,23 @@ readings bytes = read_from (length bytes) bytes 0
 
 -- Where reading goes on: behind the operation; at the end of the bytes, so nowhere, where it was refused.
 abbrev pub place_after : List ℕ → Reading → ℕ
-place_after bytes (Operation x next) = next
-place_after bytes (Refused number place) = length bytes
+place_after bytes (Ok (x, next)) = next
+place_after bytes (Err d) = length bytes
 
 -- The place behind the operation that was read; 0, which is behind none, where it was refused.
 abbrev pub end_of : Reading → ℕ
-end_of (Operation x next) = next
-end_of (Refused number place) = 0
+end_of (Ok (x, next)) = next
+end_of (Err d) = 0
 
 -- The same of several numbers.
 abbrev pub end_of_several : Several → ℕ
-end_of_several (got list next) = next
-end_of_several (bad number place) = 0
+end_of_several (Ok (list, next)) = next
+end_of_several (Err d) = 0
 
 -- By what is read at a place: the operation is passed, and then those behind it; what cannot be read is not.
 abbrev pub passed_by : (ℕ → Passage) → ℕ → Reading → Passage
-passed_by rest at (Operation x next) = record { count = suc (rest next).count; at = (rest next).at }
-passed_by rest at (Refused number place) = record { count = 0; at = at }
+passed_by rest at (Ok (x, next)) = record { count = suc (rest next).count; at = (rest next).at }
+passed_by rest at (Err d) = record { count = 0; at = at }
 
 -- Operations passed one after another from a place on, at most so many: how many, and the place after them.
 unfoldable pub passed_from : ℕ → List ℕ → ℕ → Passage

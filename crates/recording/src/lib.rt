@@ -2,15 +2,16 @@
 #![tactic(auto)]
 
 ghost use Rattle.std.specs.Prelude.{◌≡◌, cond, suc, ◌+◌, ◌*◌, ◌≤◌, length, take};
+ghost use Rattle.answer.specs.Answer.{refusal_number};
 ghost use Rattle.number.specs.Number.{number_at, end_of_number, written};
 ghost use Rattle.recording.specs.Operations.{stored_numbers};
-ghost use Rattle.recording.specs.Recording.{field_count, numbers_at, with_fields, operation_at, bytes_of_all, written_operation, writing_of, numbers};
+ghost use Rattle.recording.specs.Recording.{number_from, field_count, numbers_at, with_fields, operation_at, bytes_of_all, written_operation, writing_of, numbers};
 ghost use Rattle.recording.specs.Run.{end_of, end_of_several, passed_from};
 ghost use Rattle.recording.specs.RecordedStep.{recorded_step, stops_reading};
 ghost use Rattle.recorder.specs.Result.{together};
 
-use answer::Answer;
-use number::{Found, number_at, number_length, write_number};
+use answer::{Answer, Refusal};
+use number::{number_at, number_length, write_number};
 use operation::{LAST_CODE, operation_of};
 use recorder::step;
 use state::State;
@@ -41,13 +42,11 @@ impl Numbers {
     }
 }
 
-// What reading an operation at a place finds.
-#[derive(Clone, Copy)]
-pub enum Reading {
-    // The operation, and the place after it.
-    Operation(Numbers, usize),
-    // The number of the refusal, and the place where the bad or missing number starts.
-    Refused(u64, usize),
+// Why no operation can be read at a place: the refusal, and where the bad or missing number starts.
+#[derive(Clone, Copy, Debug, PartialEq, Eq)]
+pub struct Damage {
+    pub refusal: Refusal,
+    pub at: usize,
 }
 
 // How many operations were passed, and the place after them.
@@ -56,11 +55,6 @@ pub struct Passage {
     pub count: usize,
     pub at: usize,
 }
-
-// Refusals in reading: a number is malformed or missing; no operation has the code.
-const MALFORMED: u64 = 1;
-
-const UNKNOWN_CODE: u64 = 2;
 
 // How many fields each code has (document 01, "Operations"; document 02, Five and Six): 0 for a code past the last, which has none. A chain
 // and no table, since a table is laid out on the stack at every call; and one of bounds, since the compiler makes a table of single
@@ -100,63 +94,45 @@ pub fn field_count(code: u64) -> u64
     0
 }
 
-// An operation whose code is known, as far as its cycles and fields could be read.
-#[derive(Clone, Copy)]
-struct Fields {
-    // The operation, where all of them were.
-    numbers: Numbers,
-    // The place after the last of them, or where the bad or missing number starts.
-    next: usize,
-    // Whether all of them were read.
-    good: bool,
+// The number at a place, and the place after it. One that is missing is refused as a malformed one is.
+fn number_from(bytes: &[u8], at: usize) -> Result<(u64, usize), Damage>
+    ensures { result ≡ number_from bytes.now at }
+{
+    number_at(bytes, at).map_err(|_| Damage {
+        refusal: Refusal::MalformedNumber,
+        at,
+    })
 }
 
-// Cycles and fields after a code. A loop, since `number_at` is compiled into the one place that reads a number in it: a number of
+// An operation whose code is known: its cycles and fields after the code. A loop, since `number_at` is compiled into the one place that reads a number in it: a number of
 // one byte takes no call (document 02, Three; docs/landings/03-short-path.md).
-fn fields_at(bytes: &[u8], at: usize, code: u64) -> Fields
-    ensures { cond result.good (Reading.Operation result.numbers result.next) (Reading.Refused 1 result.next) ≡ with_fields code (numbers_at (suc (field_count code)) bytes.now at) }
+fn fields_at(bytes: &[u8], at: usize, code: u64) -> Result<(Numbers, usize), Damage>
+    ensures { result ≡ with_fields code (numbers_at (suc (field_count code)) bytes.now at) }
 {
     let count = field_count(code) as usize + 1;
     let mut list = [0u64; 5];
     let mut next = at;
-    let mut i = 0;
-    while i < count {
-        let Found::Value(n, after) = number_at(bytes, next) else {
-            let numbers = Numbers::new(code, 0, 0, 0, 0, 0);
-            return Fields {
-                numbers,
-                next,
-                good: false,
-            };
-        };
+    for i in 0..count {
+        let (n, after) = number_from(bytes, next)?;
         list[i] = n;
         next = after;
-        i = i + 1;
     }
     let numbers = Numbers::new(code, list[0], list[1], list[2], list[3], list[4]);
-    Fields {
-        numbers,
-        next,
-        good: true,
-    }
+    Ok((numbers, next))
 }
 
 // The operation at a place: the code is read and judged before its cycles and fields are read.
-pub fn operation_at(bytes: &[u8], at: usize) -> Reading
+pub fn operation_at(bytes: &[u8], at: usize) -> Result<(Numbers, usize), Damage>
     ensures { result ≡ operation_at bytes.now at }
 {
-    let Found::Value(code, next) = number_at(bytes, at) else {
-        return Reading::Refused(MALFORMED, at);
-    };
+    let (code, next) = number_from(bytes, at)?;
     if LAST_CODE < code {
-        return Reading::Refused(UNKNOWN_CODE, at);
+        return Err(Damage {
+            refusal: Refusal::UnknownCode,
+            at,
+        });
     }
-    let f = fields_at(bytes, next, code);
-    if !f.good {
-        return Reading::Refused(MALFORMED, f.next);
-    }
-    let numbers = f.numbers;
-    Reading::Operation(numbers, f.next)
+    fields_at(bytes, next, code)
 }
 
 // The place after the number at a place, or 0 where there is none: what the number is is not asked. With ten bytes there, which no
@@ -208,7 +184,7 @@ fn whole_end(bytes: &[u8], at: usize) -> usize
     requires { at + 60 ≤ length bytes.now }
     ensures { result ≡ end_of (operation_at bytes.now at) }
 {
-    let Found::Value(code, next) = number_at(bytes, at) else {
+    let Ok((code, next)) = number_at(bytes, at) else {
         return 0;
     };
     if code > LAST_CODE {
@@ -228,8 +204,8 @@ fn end_at(bytes: &[u8], at: usize) -> usize
         return whole_end(bytes, at);
     }
     match operation_at(bytes, at) {
-        Reading::Operation(_, next) => next,
-        Reading::Refused(_, _) => 0,
+        Ok((_, next)) => next,
+        Err(_) => 0,
     }
 }
 
@@ -285,16 +261,16 @@ pub fn write_operation(out: &mut [u8], at: usize, x: Numbers) -> Answer
     ensures out_after { out.new ≡ written_operation x at out.old }
 {
     if LAST_CODE < x.code {
-        return Answer::Refused(UNKNOWN_CODE);
+        return Refusal::UnknownCode.into();
     }
     let list = [x.code, x.cycles, x.a, x.b, x.c, x.d];
     let count = field_count(x.code) as usize + 2;
     let size = numbers_length(list, count);
     if out.len() < size {
-        return Answer::Refused(6);
+        return Refusal::RoomTooShort.into();
     }
     if out.len() - size < at {
-        return Answer::Refused(6);
+        return Refusal::RoomTooShort.into();
     }
     write_numbers(out, at, list, count);
     Answer::Value(size as u64)
@@ -315,30 +291,28 @@ pub fn recorded_step(s: State, room: &mut [u64], bytes: &[u8], at: usize) -> Rep
     ensures { record { result = together result.answer result.state room.new; next = result.next } ≡ recorded_step s room.old bytes.now at }
 {
     if !s.sound() {
-        return refused(7, s, at);
+        return refused(Refusal::NotSound, s, at);
     }
     match operation_at(bytes, at) {
-        Reading::Operation(x, next) => {
+        Ok((x, next)) => {
             let o = operation_of(x.code, x.a, x.b, x.c, x.d);
             let done = step(s, room, o, x.cycles);
-            let state = done.state;
-            let answer = done.answer;
             Replayed {
-                answer,
-                state,
+                answer: done.answer,
+                state: done.state,
                 next,
             }
         }
-        Reading::Refused(number, place) => refused(number, s, place),
+        Err(damage) => refused(damage.refusal, s, damage.at),
     }
 }
 
 // A refusal in a recording, and the place where reading goes on or the bad number starts.
-fn refused(number: u64, state: State, next: usize) -> Replayed
-    ensures { result ≡ record { answer = Answer.Refused number; state = state; next = next } }
+fn refused(refusal: Refusal, state: State, next: usize) -> Replayed
+    ensures { result ≡ record { answer = Answer.Refused (refusal_number refusal); state = state; next = next } }
 {
     Replayed {
-        answer: Answer::Refused(number),
+        answer: refusal.into(),
         state,
         next,
     }

@@ -7,10 +7,10 @@ ghost use Rattle.std.specs.Prelude.{◌≡◌, ◌+◌, ◌≤◌, true, false, 
 ghost use Rattle.stream.specs.Stream.{stopped};
 ghost use Rattle.replay.specs.Replay.{emptied, Brings, Turned};
 
-use arguments::{Input, look, name_at};
+use arguments::look;
 use buffer::{ROOM, move_down, say_unwritten, within};
 use line::LONGEST_LINE;
-use message::{say_damage, say_unread};
+use message::{NamedInput, say_damage, say_unread};
 use number::number_at;
 use program::{Program, Reader};
 use std::io::Read;
@@ -123,35 +123,35 @@ fn replay(
     p
 }
 
-// Replays what is read, and says where it is damaged. The input's name stands at this place of the arguments.
-fn replay_named(program: Program, reader: &mut Reader, place: usize) {
+// Replays what is read, and says where it is damaged.
+fn replay_input(program: Program, input: &mut NamedInput) {
     let mut room = [0u64; 192];
     let mut bytes = [0u8; ROOM];
     let mut lines = [0u8; 4096];
-    let mut name = [0u8; 4096];
-    let n = name_at(program, place, &mut name);
+    let name = input.name.text();
     let p = replay(
         program,
-        reader,
-        &name[..n],
+        &mut input.reader,
+        name,
         &mut room,
         &mut bytes,
         &mut lines,
     );
     if p.damaged {
-        report(program, &name[..n], &bytes, p);
+        report(program, name, &bytes, p);
     }
 }
 
 fn main(rt: HostRuntime) {
     let program = Program::new(rt, b"replay");
-    let called = look(
+    let Some(mut input) = look(
         program,
         b"usage: replay [FILE]\n\nReplays a recording from FILE, or from standard input where FILE is - or missing, from a fresh state with room\nfor 64 records. Prints a line for each read (16 hexadecimal digits), each access that was not performed\n(undefined, trap2, trap3) and each refusal (refused N), and nothing else. After refused 1 or refused 2, where\nthe recording is damaged, it stops, and says on standard error where.\n",
         false,
-    );
-    match called.input {
-        Input::Opened(mut reader) => replay_named(program, &mut reader, called.name),
-        Input::Nothing => {}
-    }
+    )
+    .inputs
+    else {
+        return;
+    };
+    replay_input(program, &mut input);
 }

@@ -12,10 +12,10 @@ use lib.Seq.{sets-eq, set-get_or}
 use Rattle.bits.proofs.Cases.{below_or_not, either, never}
 use Rattle.bits.proofs.Each.{each}
 use Rattle.state.specs.declared.State.{State}
-use Rattle.state.specs.declared.Loaded.TheVariants.{Held}
 use Rattle.state.specs.Sound.{is_place, sound}
 use Rattle.state.specs.Parts.{state_numbers, state_of, words_of}
 use Rattle.state.specs.Words.{stored, judged, loaded}
+use Rattle.std.proofs.Common.{Some}
 
 pub load_stored : (s : State) (w : List ℕ) → state_numbers ≤ length w → state_of (stored s w) ≡ s
 unfolding stored
@@ -29,7 +29,7 @@ stored_loaded w =
     (below_or_not (length w) state_numbers)
 
 -- A state that was judged and held is the one that was judged, and it is sound.
-pub held_judged : (s s' : State) → judged s ≡ Held s' → (s' ≡ s) × (sound s ≡ true)
+pub held_judged : (s s' : State) → judged s ≡ Some s' → (s' ≡ s) × (sound s ≡ true)
 unfolding judged
 held_judged s s' e = go (either (sound s))
   where
@@ -38,7 +38,7 @@ held_judged s s' e = go (either (sound s))
     go (inr h) = never (cc (rw h at e))
 
 -- A state that was loaded is the one that the lent numbers hold, and it is sound.
-pub held : (w : List ℕ) (s : State) → loaded w ≡ Held s → (s ≡ state_of w) × (sound s ≡ true)
+pub held : (w : List ℕ) (s : State) → loaded w ≡ Some s → (s ≡ state_of w) × (sound s ≡ true)
 unfolding loaded
 held w s e = go (either (leb state_numbers (length w)))
   where
@@ -49,11 +49,11 @@ held w s e = go (either (leb state_numbers (length w)))
     go (inr h) = never (cc (rw h at e))
 
 -- Storing what was loaded leaves the lent numbers as they were.
-pub kept : (w : List ℕ) (s : State) → loaded w ≡ Held s → stored s w ≡ w
+pub kept : (w : List ℕ) (s : State) → loaded w ≡ Some s → stored s w ≡ w
 kept w s e = rw (held w s e).0 (stored_loaded w)
 
 -- A sound state that is stored is loaded again, where the lent numbers are enough.
-pub loaded-stored : (s : State) (w : List ℕ) → state_numbers ≤ length w → sound s ≡ true → loaded (stored s w) ≡ Held s
+pub loaded-stored : (s : State) (w : List ℕ) → state_numbers ≤ length w → sound s ≡ true → loaded (stored s w) ≡ Some s
 unfolding loaded judged stored
 loaded-stored s w enough is_sound =
     rw (le-leb state_numbers (length w) enough, le-leb state_numbers (length (words_of s ++ drop state_numbers w)) (omega arith), is_sound)

@@ -259,20 +259,12 @@ impl State {
     }
 }
 
-// What lent numbers hold.
-#[derive(Clone, Copy)]
-pub enum Loaded {
-    Held(State),
-    // Refusal 7.
-    Unsound,
-}
-
-// The sound state in lent numbers, if there is one.
-pub fn load(words: &[u64]) -> Loaded
+// The sound state in lent numbers; where there is none, it is refusal 7.
+pub fn load(words: &[u64]) -> Option<State>
     ensures { result ≡ loaded words.now }
 {
     if words.len() < STATE_NUMBERS {
-        return Loaded::Unsound;
+        return None;
     }
     let running = Running {
         count: words[7],
@@ -291,11 +283,7 @@ pub fn load(words: &[u64]) -> Loaded
         brbts: words[10],
         start: words[11],
     };
-    if s.sound() {
-        Loaded::Held(s)
-    } else {
-        Loaded::Unsound
-    }
+    if s.sound() { Some(s) } else { None }
 }
 
 // The state into lent numbers; none is written where they are too few.

@@ -12,18 +12,17 @@ use borrow.Author.Tests.{lt-ltb, le-ltb, lt-leb, le-leb, eq-eqb, ne_eqb}
 use Rattle.bits.proofs.Cases.{below_or_not}
 use Rattle.count.specs.declared.Spread.{Spread}
 use Rattle.count.specs.Count.{decoded, from_to, at_least, refused_with, spread_of}
-use Rattle.sum.specs.declared.Total.{Total}
-use Rattle.sum.specs.declared.Total.TheVariants.{Fits, Passes}
 use Rattle.sum.specs.Sum.{added, every, low_sum, high_sum, all_listed, all_bounded, largest_number, sum_of, summed}
 use Rattle.sum.specs.Total.{total, plus, both_ends}
+use Rattle.std.proofs.Common.{Some, None, Option}
 
 -- ---- a sum as code holds it
 
-pub fits : (n : ℕ) → n ≤ largest_number → total n ≡ Fits n
+pub fits : (n : ℕ) → n ≤ largest_number → total n ≡ Some n
 unfolding total
 fits n h = rw (le-leb n largest_number h)
 
-pub passes : (n : ℕ) → largest_number < n → total n ≡ Passes
+pub passes : (n : ℕ) → largest_number < n → total n ≡ None
 unfolding total
 passes n h = rw (lt-leb n largest_number h)
 
@@ -42,7 +41,7 @@ answered low high bounded =
     (λ (h : low ≤ largest_number). rw (fits low h, le-ltb largest_number low h) (by_end bounded)) (below_or_not largest_number low)
   where
     by_end : (b : Bool)
-        → both_ends (Fits low) (total high) b
+        → both_ends (Some low) (total high) b
         ≡ cond (not b) (at_least low) (cond (ltb largest_number high) (refused_with 9) (from_to low high))
     by_end false = refl
     by_end true =
@@ -52,7 +51,7 @@ answered low high bounded =
 -- ---- what is left of a run
 
 -- From place i on: the sums so far and those of what is left are the run's, and so for what every encoding is.
-pub record Left (run : List ℕ) (i : ℕ) (low high : Total) (bounded : Bool) : Type 0 where
+pub record Left (run : List ℕ) (i : ℕ) (low high : Option ℕ) (bounded : Bool) : Type 0 where
   pub smallest : ℕ
   pub largest : ℕ
   pub low_is : low ≡ total smallest
@@ -62,7 +61,7 @@ pub record Left (run : List ℕ) (i : ℕ) (low high : Total) (bounded : Bool) :
   pub bounds : bounded && all_bounded (drop i run) ≡ all_bounded run
   pub lists : all_listed (drop i run) ≡ all_listed run
 
-pub begins : (run : List ℕ) {i : ℕ} → i ≡ 0 → Left run i (Fits 0) (Fits 0) true
+pub begins : (run : List ℕ) {i : ℕ} → i ≡ 0 → Left run i (Some 0) (Some 0) true
 begins run e =
     rw e
     (record {
@@ -77,7 +76,7 @@ begins run e =
     })
 
 -- A turn: the encoding at place i is in its list, and its ends are added.
-pub turned : (run : List ℕ) (i : ℕ) (low high : Total) (bounded : Bool) → Left run i low high bounded → i < length run
+pub turned : (run : List ℕ) (i : ℕ) (low high : Option ℕ) (bounded : Bool) → Left run i low high bounded → i < length run
     → (spread_of (decoded (get_or run i 0))).number ≡ 0
     → Left run (suc i) (plus low (spread_of (decoded (get_or run i 0))).low) (plus high (spread_of (decoded (get_or run i 0))).high)
     (bounded && eqb (spread_of (decoded (get_or run i 0))).bounded 1)
@@ -97,7 +96,7 @@ turned run i low high bounded l h listed =
     }
 
 -- The encoding at place i is outside its list.
-pub outside : (run : List ℕ) (i : ℕ) (low high : Total) (bounded : Bool) → Left run i low high bounded → i < length run
+pub outside : (run : List ℕ) (i : ℕ) (low high : Option ℕ) (bounded : Bool) → Left run i low high bounded → i < length run
     → (spread_of (decoded (get_or run i 0))).number ≢ 0
     → refused_with 4 ≡ summed run
 unfolding summed every
@@ -106,7 +105,7 @@ outside run i low high bounded l h refused =
     rw none
 
 -- Nothing is left.
-pub ended : (run : List ℕ) (i : ℕ) (low high : Total) (bounded : Bool) → Left run i low high bounded → length run ≤ i
+pub ended : (run : List ℕ) (i : ℕ) (low high : Option ℕ) (bounded : Bool) → Left run i low high bounded → length run ≤ i
     → both_ends low high bounded ≡ summed run
 unfolding summed added every
 ended run i low high bounded l h =

@@ -5,47 +5,30 @@ ghost use Rattle.std.specs.Prelude.{◌≡◌};
 ghost use Rattle.sum.specs.Sum.{summed};
 ghost use Rattle.sum.specs.Total.{plus, both_ends};
 
+use answer::Refusal;
 use count::{Spread, decode};
 
-// A sum of numbers of 64 bits.
-#[derive(Clone, Copy)]
-pub enum Total {
-    // It is at most 2^64 - 1.
-    Fits(u64),
-    // It passes that.
-    Passes,
-}
-
-impl Total {
-    // The sum with one number more.
-    pub fn plus(self, n: u64) -> Total
-        ensures { result ≡ plus self n }
-    {
-        match self {
-            Total::Fits(sum) => {
-                if n <= u64::MAX - sum {
-                    Total::Fits(sum + n)
-                } else {
-                    Total::Passes
-                }
-            }
-            Total::Passes => Total::Passes,
-        }
-    }
+// A sum with one number more; none where it passes 2^64 - 1, or did before.
+#[tactic(auto, unfolding(crate::specs::Total::plus, crate::specs::Total::total))]
+fn plus(sum: Option<u64>, n: u64) -> Option<u64>
+    ensures { result ≡ plus sum n }
+{
+    sum?.checked_add(n)
 }
 
 // Both sums as a host is answered, or refusal 9 where one that would be answered passes 2^64 - 1.
-fn both_ends(low: Total, high: Total, bounded: bool) -> Spread
+#[tactic(auto, unfolding(crate::specs::Total::both_ends))]
+fn both_ends(low: Option<u64>, high: Option<u64>, bounded: bool) -> Spread
     ensures { result ≡ both_ends low high bounded }
 {
-    let Total::Fits(smallest) = low else {
-        return Spread::refused(9);
+    let Some(smallest) = low else {
+        return Spread::refused(Refusal::SumPasses.number());
     };
     if !bounded {
         return Spread::at_least(smallest);
     }
-    let Total::Fits(largest) = high else {
-        return Spread::refused(9);
+    let Some(largest) = high else {
+        return Spread::refused(Refusal::SumPasses.number());
     };
     Spread::from_to(smallest, largest)
 }
@@ -54,19 +37,17 @@ fn both_ends(low: Total, high: Total, bounded: bool) -> Spread
 pub fn sum(run: &[u64]) -> Spread
     ensures { result ≡ summed run.now }
 {
-    let mut low = Total::Fits(0);
-    let mut high = Total::Fits(0);
+    let mut low = Some(0);
+    let mut high = Some(0);
     let mut bounded = true;
-    let mut i = 0;
-    while i < run.len() {
-        let one = decode(run[i]).spread();
+    for cc in run {
+        let one = decode(*cc).spread();
         if one.number != 0 {
-            return Spread::refused(4);
+            return Spread::refused(Refusal::OutsideList.number());
         }
-        low = low.plus(one.low);
-        high = high.plus(one.high);
+        low = plus(low, one.low);
+        high = plus(high, one.high);
         bounded = bounded & (one.bounded == 1);
-        i += 1;
     }
     both_ends(low, high, bounded)
 }

@@ -1,9 +1,10 @@
 -- Lengths of what is written, and a store at the end before the stores in front of it.
-use Prim.Native.Nat.{ℕ, zero, suc, ◌+◌, ◌-◌, ◌/◌, ◌%◌, ◌≤◌, ◌<◌}
-use mathlib.Core.Path.{◌≡◌, refl, ◌∙◌}
+use Prim.Native.Nat.{ℕ, zero, suc, ◌+◌, ◌-◌, ◌/◌, ◌%◌, ◌^◌, ◌*◌, ◌≤◌, ◌<◌, max}
+use mathlib.Core.Path.{◌≡◌, refl, ap, ◌∙◌}
 use mathlib.Core.List.{List, [], ◌∷◌, ◌++◌}
 use mathlib.Core.Logic.{⊎_elim}
-use native.Mathlib.Omega.{arith}
+use Rattle.std.proofs.Common.{arith, pow-add}
+use Rattle.std.proofs.Math.Nat.{pow-suc, pow-zero, one-le-pow, pow-le-pow_right, le-div_iff_mul-le, div-lt_iff_lt-mul}
 use borrow.Author.Tests.{lt-ltb, le-ltb}
 use lib.ListN.{length, set, length-append}
 use lib.Seq.{sets, set_comm}
@@ -52,3 +53,34 @@ pub none_left : {all : List ℕ} (out : List ℕ) (at base left rest : ℕ) → 
 unfolding digits
 none_left out at base zero rest e h = h
 none_left out at base (suc k) rest e h = absurd (omega arith)
+
+-- A number between two powers of the base has as many digits as the larger one's exponent.
+pub count_between : (base most k n : ℕ) → 2 ≤ base → k ≤ most → (0 < k → base ^ k ≤ n) → n < base ^ suc k → digit_count base (suc most) n ≡ suc k
+count_between base most zero n two h above below =
+    let small : n < 1 * base = rw (pow-suc base 0, pow-zero base) at below in rw (lt-ltb n base (omega arith)) refl
+count_between base zero (suc k) n two h above below = absurd (omega arith)
+count_between base (suc most) (suc k) n two h above below =
+    let some : 0 < base = omega arith in
+    let above : base ^ k ≤ n / base = (le-div_iff_mul-le some).1 (omega (arith, above (omega arith), pow-suc base k)) in
+    let below : n / base < base ^ suc k = (div-lt_iff_lt-mul some).1 (omega (arith, below, pow-suc base (suc k))) in
+    let whole : base ≤ n = omega (arith, (le-div_iff_mul-le {k = base} {x = 1} {y = n} some).0 (omega (arith, above, one-le-pow k base some))) in
+    rw (le-ltb n base whole) (ap suc (count_between base most k (n / base) two (omega arith) (λ _. above) below))
+
+-- Four bits make a hexadecimal digit.
+pow_four : (k : ℕ) → 16 ^ k ≡ 2 ^ (4 * k)
+pow_four zero = refl
+pow_four (suc k) =
+    let four : 4 * suc k ≡ 4 * k + 4 = omega arith in rw (four, pow-add 2 (4 * k) 4, pow-suc 16 k, pow_four k) refl
+
+four_bits : (n r : ℕ) → r < 64 → 2 ^ r ≤ n → n < 2 * 2 ^ r → digit_count 16 16 n ≡ suc (r / 4)
+four_bits n r small above below =
+    let k = r / 4 in
+    let low : 16 ^ k ≤ 2 ^ r = rw (pow_four k) (pow-le-pow_right (omega arith) (omega arith)) in
+    let high : 2 ^ suc r ≤ 16 ^ suc k = rw (pow_four (suc k)) (pow-le-pow_right (omega arith) (omega arith)) in
+    count_between 16 15 k n (omega arith) (omega arith) (λ _. omega arith) (omega (arith, pow-suc 2 r))
+
+pub bits_counted : (n r : ℕ) → r < 64 → 2 ^ r ≤ max n 1 → max n 1 < 2 * 2 ^ r → r / 4 + 1 ≡ digit_count 16 16 n
+bits_counted zero r small above below = omega (arith, four_bits 1 r small above below)
+bits_counted (suc n) r small above below =
+    let same : max (suc n) 1 ≡ suc n = omega arith in
+    omega (arith, four_bits (suc n) r small (rw same at above) (rw same at below))

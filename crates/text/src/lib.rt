@@ -1,34 +1,27 @@
 // Texts and numbers written into lent bytes. Each function writes all or nothing, and answers the bytes written.
 #![tactic(auto)]
 
-ghost use Rattle.std.specs.Prelude.{◌≡◌, ℕ, suc, ◌+◌, ◌^◌, ◌≤◌, ◌<◌, length};
+ghost use Rattle.std.specs.Prelude.{◌≡◌, ◌+◌, ◌≤◌, ◌<◌, length, leb};
 ghost use Rattle.number.specs.Number.{written, written_if, count_if};
-ghost use Rattle.text.specs.Text.{digit, digits, digit_count, decimal, hexadecimal};
+ghost use Rattle.text.specs.Text.{digit, digits, digit_count, decimal_count, decimal, hexadecimal};
 
-// A text at a place that has room for it.
-fn put(out: &mut [u8], at: usize, text: &[u8])
-    requires { at + length text.now ≤ length out.old }
-    ensures { out.new ≡ written out.old at text.now }
+// Whether so many bytes have room at a place. The test subtracts, since a sum with a large place would wrap.
+fn has_room(out: &[u8], at: usize, count: usize) -> bool
+    ensures { result ≡ leb (at + count) (length out.now) }
 {
-    let mut j = 0;
-    while j < text.len() {
-        out[at + j] = text[j];
-        j += 1;
-    }
+    count <= out.len() && at <= out.len() - count
 }
 
 // A text at a place, where it has room there.
+#[tactic(auto, unfolding(number::specs::Number::count_if, number::specs::Number::written_if))]
 pub fn write_text(out: &mut [u8], at: usize, text: &[u8]) -> usize
     ensures value { result ≡ count_if out.old at text.now }
     ensures out_after { out.new ≡ written_if out.old at text.now }
 {
-    if out.len() < text.len() {
+    if !has_room(out, at, text.len()) {
         return 0;
     }
-    if out.len() - text.len() < at {
-        return 0;
-    }
-    put(out, at, text);
+    out[at..at + text.len()].copy_from_slice(text);
     text.len()
 }
 
@@ -44,55 +37,79 @@ fn digit_of(n: u64) -> u8
 }
 
 // The lowest `count` digits of n, from the last to the first, at a place that has room for them.
-fn put_digits(out: &mut [u8], at: usize, base: u64, count: usize, n: u64)
-    requires { (1 ≤ base) × (base ≤ 16) × (at + count ≤ length out.old) }
-    ensures { out.new ≡ written out.old at (digits base count n) }
+fn put_digits<const BASE: u64>(out: &mut [u8], at: usize, count: usize, n: u64)
+    requires { (1 ≤ BASE) × (BASE ≤ 16) × (at + count ≤ length out.old) }
+    ensures { out.new ≡ written out.old at (digits BASE count n) }
 {
-    let mut left = count;
     let mut rest = n;
-    while 0 < left {
-        left -= 1;
-        out[at + left] = digit_of(rest % base);
-        rest = rest / base;
+    for i in (0..count).rev() {
+        out[at + i] = digit_of(rest % BASE);
+        rest /= BASE;
     }
 }
 
-// How many digits n has in a base: as many as are defined, however many are allowed, while so many are enough.
-fn digit_count(base: u64, n: u64) -> usize
-    requires { 2 ≤ base }
-    ensures { (most : ℕ) → n < base ^ suc most → result ≡ digit_count base (suc most) n }
+// The powers of ten from 10 on.
+const POWERS: [u64; 19] = [
+    10,
+    100,
+    1_000,
+    10_000,
+    100_000,
+    1_000_000,
+    10_000_000,
+    100_000_000,
+    1_000_000_000,
+    10_000_000_000,
+    100_000_000_000,
+    1_000_000_000_000,
+    10_000_000_000_000,
+    100_000_000_000_000,
+    1_000_000_000_000_000,
+    10_000_000_000_000_000,
+    100_000_000_000_000_000,
+    1_000_000_000_000_000_000,
+    10_000_000_000_000_000_000,
+];
+
+// How many decimal digits n has: one, and one more for each of these powers that it reaches. (Most numbers have one: the first
+// test makes them faster.)
+fn decimal_digits(n: u64) -> usize
+    ensures { result ≡ decimal_count 20 n }
 {
-    let mut rest = n;
-    let mut count = 1;
-    while base <= rest {
-        rest = rest / base;
-        count += 1;
+    if n < 10 {
+        return 1;
     }
-    count
+    POWERS.partition_point(|power| *power <= n) + 1
+}
+
+// How many hexadecimal digits n has: four bits make one.
+fn hexadecimal_digits(n: u64) -> usize
+    ensures { result ≡ digit_count 16 16 n }
+{
+    (n.max(1).ilog2() / 4 + 1) as usize
 }
 
 // Digits of n at a place, where they have room there.
-fn write_digits(out: &mut [u8], at: usize, base: u64, count: usize, n: u64) -> usize
-    requires { (1 ≤ base) × (base ≤ 16) }
-    ensures value { result ≡ count_if out.old at (digits base count n) }
-    ensures out_after { out.new ≡ written_if out.old at (digits base count n) }
+#[tactic(auto, using(crate::proofs::Laws::length_digits), unfolding(number::specs::Number::count_if, number::specs::Number::written_if))]
+fn write_digits<const BASE: u64>(out: &mut [u8], at: usize, count: usize, n: u64) -> usize
+    requires { (1 ≤ BASE) × (BASE ≤ 16) }
+    ensures value { result ≡ count_if out.old at (digits BASE count n) }
+    ensures out_after { out.new ≡ written_if out.old at (digits BASE count n) }
 {
-    if out.len() < count {
+    if !has_room(out, at, count) {
         return 0;
     }
-    if out.len() - count < at {
-        return 0;
-    }
-    put_digits(out, at, base, count, n);
+    put_digits::<BASE>(out, at, count, n);
     count
 }
 
 // n in decimal.
+#[tactic(auto, unfolding(crate::specs::Text::decimal))]
 pub fn write_decimal(out: &mut [u8], at: usize, n: u64) -> usize
     ensures value { result ≡ count_if out.old at (decimal n) }
     ensures out_after { out.new ≡ written_if out.old at (decimal n) }
 {
-    write_digits(out, at, 10, digit_count(10, n), n)
+    write_digits::<10>(out, at, decimal_digits(n), n)
 }
 
 // The lowest `count` hexadecimal digits of n.
@@ -100,13 +117,14 @@ pub fn write_hexadecimal(out: &mut [u8], at: usize, count: usize, n: u64) -> usi
     ensures value { result ≡ count_if out.old at (digits 16 count n) }
     ensures out_after { out.new ≡ written_if out.old at (digits 16 count n) }
 {
-    write_digits(out, at, 16, count, n)
+    write_digits::<16>(out, at, count, n)
 }
 
 // n in hexadecimal, with as many digits as it has.
+#[tactic(auto, unfolding(crate::specs::Text::hexadecimal))]
 pub fn write_shortest_hexadecimal(out: &mut [u8], at: usize, n: u64) -> usize
     ensures value { result ≡ count_if out.old at (hexadecimal n) }
     ensures out_after { out.new ≡ written_if out.old at (hexadecimal n) }
 {
-    write_digits(out, at, 16, digit_count(16, n), n)
+    write_digits::<16>(out, at, hexadecimal_digits(n), n)
 }

@@ -21,14 +21,14 @@ have_room n size h = let enough = leb-true n (size / 2) h in omega arith
 pub returns-in_default : goal.returns-in_default
 unfolding batch_of
 returns-in_default c =
-    rw (← c.load-loaded.ensures, c.in_default.is)
+    rw (← c.load.ensures, c.in_default.is, c.into.ensures)
 
 pub returns-then-not-at_most : goal.returns-then-not-at_most
 unfolding batch_of
 returns-then-not-at_most c =
     let a = c.args in
     let few = too_few_lem (length (readings a.bytes.now)) (length a.answers.now) (sym c.at_most.ensures ∙ c.if-not-at_most.true) in
-    rw (← c.load-loaded.ensures, c.in-Held.is, few)
+    rw (← c.load.ensures, c.in-Some.is, few, c.into-then-not-at_most.ensures)
 
 pub step_all-count-requires : goal.step_all-count-requires
 unfolding batch_of
@@ -45,4 +45,4 @@ returns c =
     let a = c.args in
     let r = c.step_all-count.ensures in
     let enough = le-ltb (length a.answers.now) (2 * length (readings a.bytes.now)) room_for in
-    rw (← c.load-loaded.ensures, c.in-Held.is, enough, r.value, r.words_after, r.room_after, r.answers_after, answered (readings a.bytes.now) a.words.now a.room.now)
+    rw (← c.load.ensures, c.in-Some.is, enough, r.value, r.words_after, r.room_after, r.answers_after, answered (readings a.bytes.now) a.words.now a.room.now)

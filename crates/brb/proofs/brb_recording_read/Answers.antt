@@ -6,14 +6,14 @@ use Rattle.brb.proofs.brb_recording_read.Goals as goal
 pub returns-then-lent-lt6 : goal.returns-then-lent-lt6
 unfolding read_result
 returns-then-lent-lt6 c =
-    rw (c.returned.ensures, lt-ltb _ _ c.if-lent-lt6.true)
+    rw (c.answered.ensures, lt-ltb _ _ c.if-lent-lt6.true)
 
-pub returns-in-Operation : goal.returns-in-Operation
+pub returns-in-Ok : goal.returns-in-Ok
 unfolding read_result
-returns-in-Operation c =
-    rw (c.returned-in-Operation.ensures, le-ltb _ _ c.if-lent-lt6.false, ← c.operation_at.ensures, c.in-Operation.is, c.store_numbers.ensures)
+returns-in-Ok c =
+    rw (c.into.ensures, le-ltb _ _ c.if-lent-lt6.false, ← c.operation_at.ensures, c.in-Ok.is, c.store_numbers.ensures)
 
-pub returns-in-Refused : goal.returns-in-Refused
+pub returns-in-Err : goal.returns-in-Err
 unfolding read_result
-returns-in-Refused c =
-    rw (c.returned-in-Refused.ensures, le-ltb _ _ c.if-lent-lt6.false, ← c.operation_at.ensures, c.in-Refused.is)
+returns-in-Err c =
+    rw (c.answered-in-Err.ensures, le-ltb _ _ c.if-lent-lt6.false, ← c.operation_at.ensures, c.in-Err.is)

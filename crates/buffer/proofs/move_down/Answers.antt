@@ -1,51 +1,16 @@
--- The bytes move within the input, from the first to the last: each is read at or past the place where it is written, and so
--- still stands there.
-use Prim.Native.Nat.{◌-◌}
-use mathlib.Core.Path.{◌≡◌, ◌∙◌}
-use native.Mathlib.Omega.{arith}
-use lib.ListN.{length-set}
-use Rattle.buffer.proofs.Laws.{one_moved, all_moved, none_moved, past_input}
+-- Nothing waits where the end is past the input, or in front of the place; else what waits is copied to the front.
+use Rattle.std.proofs.Common.{◌∙◌, arith}
+use Rattle.buffer.proofs.Laws.{none_moved, all_moved}
 use Rattle.buffer.proofs.move_down.Goals as goal
 
-pub returns-then-input-end-clause-value : goal.returns-then-input-end-clause-value
-returns-then-input-end-clause-value c =
+pub returns-then-input-end : goal.returns-then-input-end
+returns-then-input-end c =
     let a = c.args in
-    let (count, content) = past_input a.input.now a.at a.end (omega arith) in (count, omega arith)
+    let nothing = none_moved a.input.now a.at a.end c.then-input-end.either in
+    record { value = nothing.0; input_after = nothing.1 }
 
-pub returns-then-input-end-clause-input_after : goal.returns-then-input-end-clause-input_after
-returns-then-input-end-clause-input_after c =
+pub returns : goal.returns
+returns c =
     let a = c.args in
-    let (count, content) = past_input a.input.now a.at a.end (omega arith) in content
-
-pub returns-then-end-at-clause-value : goal.returns-then-end-at-clause-value
-returns-then-end-at-clause-value c =
-    let a = c.args in
-    let (count, content) = none_moved a.input.now a.at a.end (omega arith) (omega arith) in (count, omega arith)
-
-pub returns-then-end-at-clause-input_after : goal.returns-then-end-at-clause-input_after
-returns-then-end-at-clause-input_after c =
-    let a = c.args in
-    let (count, content) = none_moved a.input.now a.at a.end (omega arith) (omega arith) in content
-
-pub loop-i-preserved : goal.loop-i-preserved
-loop-i-preserved c =
-    let l = c in
-    let a = l.args in (
-      omega arith,
-      simp length-set (omega arith),
-      rw l.loop-i.invariant.2 (one_moved a.input.now a.at a.end (omega arith) l.loop-i.i (omega arith)),
-    )
-
-pub returns-clause-value : goal.returns-clause-value
-returns-clause-value c =
-    let l = c in
-    let a = l.args in
-    let (count, content) = all_moved a.input.now a.at a.end (omega arith) (omega arith) in
-    let all : l.loop-i.i ≡ a.end - a.at = omega arith in (count, omega arith)
-
-pub returns-clause-input_after : goal.returns-clause-input_after
-returns-clause-input_after c =
-    let l = c in
-    let a = l.args in
-    let (count, content) = all_moved a.input.now a.at a.end (omega arith) (omega arith) in
-    let all : l.loop-i.i ≡ a.end - a.at = omega arith in rw all at l.loop-i.invariant.2 ∙ content
+    let moved = all_moved a.input.now a.at a.end c.if-input-end.false c.if-end-at.false in
+    record { value = (moved.0, omega (arith, c.copy_within.ensures.len)); input_after = c.copy_within.ensures.after ∙ moved.1 }

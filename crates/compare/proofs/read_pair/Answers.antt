@@ -7,8 +7,8 @@ returns-in_default c =
 
 pub returns-in_default-operation_at : goal.returns-in_default-operation_at
 returns-in_default-operation_at c =
-    rw (c.stopped-in_default-operation_at.ensures, ← c.operation_at.ensures, ← c.operation_at-2.ensures, c.in-Operation.is, c.in_default-operation_at.is)
+    rw (c.stopped-in_default-operation_at.ensures, ← c.operation_at.ensures, ← c.operation_at-2.ensures, c.in-Ok.is, c.in_default-operation_at.is)
 
 pub returns : goal.returns
 returns c =
-    rw (c.after.ensures, c.differing_of.ensures, ← c.operation_at.ensures, ← c.operation_at-2.ensures, c.in-Operation.is, c.in-Operation-operation_at.is)
+    rw (c.after.ensures, c.differing_of.ensures, ← c.operation_at.ensures, ← c.operation_at-2.ensures, c.in-Ok.is, c.in-Ok-operation_at.is)

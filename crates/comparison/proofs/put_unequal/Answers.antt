@@ -1,5 +1,5 @@
 -- The first unequal pair: the parts of its lines, one behind another.
-use Rattle.readable.proofs.Laws.{and_part}
+use Rattle.buffer.proofs.Laws.{and_part}
 use Rattle.comparison.specs.Comparison.{unequal_lines}
 use Rattle.comparison.proofs.put_unequal.Goals as goal
 
@@ -7,4 +7,4 @@ pub returns : goal.returns
 unfolding unequal_lines
 returns c =
     rw (← c.wrapping_add_u64.ensures.value)
-    (and_part (and_part (and_part (and_part (and_part (and_part c.put_decimal-number.ensures c.put_text-opening.ensures) c.put_differing-names.ensures) c.put_text-above.ensures) c.put_readable-between.ensures) c.put_text-below.ensures) c.put_readable.ensures)
+    (and_part (and_part (and_part (and_part (and_part (and_part c.decimal.ensures c.text.ensures) c.put_differing.ensures) c.text-2.ensures) c.put_readable.ensures) c.text-3.ensures) c.put_readable-2.ensures)

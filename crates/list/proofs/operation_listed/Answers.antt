@@ -2,10 +2,10 @@
 use Rattle.std.proofs.Common.{refl}
 use Rattle.list.proofs.operation_listed.Goals as goal
 
-pub returns-in-Operation : goal.returns-in-Operation
-returns-in-Operation c =
-    rw (← c.reading_at.ensures, c.in-Operation.is) c.listed.ensures
+pub returns-in-Ok : goal.returns-in-Ok
+returns-in-Ok c =
+    rw (← c.reading_at.ensures, c.in-Ok.is) c.listed.ensures
 
-pub returns-in-Refused : goal.returns-in-Refused
-returns-in-Refused c =
-    rw (← c.reading_at.ensures, c.in-Refused.is) (c.refused.ensures, refl)
+pub returns-in-Err : goal.returns-in-Err
+returns-in-Err c =
+    rw (← c.reading_at.ensures, c.in-Err.is) (refl, c.refuse.ensures)

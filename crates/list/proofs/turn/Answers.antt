@@ -12,7 +12,7 @@ pub returns-then-left-eq0 : goal.returns-then-left-eq0
 returns-then-left-eq0 c =
     let l = c in
     let p = l.args.p in
-    record { turned_at = λ _. rw (eq-eqb (p.end - p.start) 0 (omega arith)) (c.stopped.ensures, refl); out_unchanged = λ _. refl }
+    record { turned_at = λ _. rw (eq-eqb (p.end - p.start) 0 (omega arith)) (refl, refl); out_unchanged = λ _. refl }
 
 pub returns : goal.returns
 returns c =

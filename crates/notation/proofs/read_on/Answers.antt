@@ -1,58 +1,41 @@
--- What reading on from a place comes to is what reading on from the start does.
-use Prim.Native.Nat.{ℕ, ◌≤◌, ◌<◌}
-use mathlib.Core.Path.{◌≡◌, refl, sym, ◌∙◌}
-use mathlib.Core.List.{List, []}
-use native.Mathlib.Omega.{arith}
-use lib.ListN.{length, drop, drop_of_length-le}
-use Rattle.bits.proofs.Cases.{never}
+-- The words up to the operation's end, and what that comes to.
+use Rattle.std.proofs.Common.{◌≡◌, ◌+◌, ◌<◌, ◌≤◌, ◌∙◌, ℕ, List, [], length, take, sym, ap, rules, Ok, Err}
+use Rattle.std.specs.List.{position_or_len, slice_split}
 use Rattle.notation.specs.declared.Begun.{Begun}
-use Rattle.notation.specs.declared.Part.{Part}
-use Rattle.notation.specs.declared.Part.TheVariants.{On, Done}
-use Rattle.notation.specs.declared.Step.{Step}
+use Rattle.notation.specs.declared.Wrong.{Wrong}
 use Rattle.notation.specs.declared.Step.TheVariants.{More}
-use Rattle.notation.specs.Reading.{read_from}
-use Rattle.notation.specs.Places.{Follows, on, done}
+use Rattle.notation.specs.Words.{is_blank, ends_operation}
+use Rattle.notation.specs.Reading.{ended_at, read_from}
+use Rattle.notation.specs.Places.{behind_words, words_from}
+use Rattle.notation.proofs.Reading.{closing, read_words, closing_ends, closing_more}
 use Rattle.notation.proofs.read_on.Goals as goal
 
-went_on : {s : List ℕ} {at : ℕ} {begun : Begun} (part : Part) (more : Begun) (next : ℕ) → Follows s at begun part → part ≡ On more next
-    → (at < next) × (read_from begun [] (drop at s) at ≡ read_from more [] (drop next s) next)
-went_on (On more next) other place (on h e) same =
-    let first : more ≡ other = cc in
-    let second : next ≡ place = cc in
-    rw (← first, ← second) (h, e)
-went_on (Done step) other place (done e) same = never (cc)
+module _ (text : List ℕ) (begun : Begun) (at n : ℕ) (first : n ≡ position_or_len ends_operation text) where
+  stops : (e : Wrong) → words_from begun (slice_split is_blank (take n text)) at ≡ Err e → Err e ≡ read_from begun [] text at
+  stops e h = sym (read_words text begun at ∙ ap (behind_words (closing text at)) (rw first at h))
 
-came_to : {s : List ℕ} {at : ℕ} {begun : Begun} (part : Part) (step : Step) → Follows s at begun part → part ≡ Done step
-    → read_from begun [] (drop at s) at ≡ step
-came_to (On more next) step (on h e) same = never (cc)
-came_to (Done other) step (done e) same = let first : other ≡ step = cc in e ∙ first
+  goes : (more : Begun) → words_from begun (slice_split is_blank (take n text)) at ≡ Ok more → closing text at more ≡ read_from begun [] text at
+  goes more h = sym (read_words text begun at ∙ ap (behind_words (closing text at)) (rw first at h))
 
-past : (s : List ℕ) (i : ℕ) (begun : Begun) → length s ≤ i → read_from begun [] (drop i s) i ≡ More begun
-unfolding read_from
-past s i begun h = rw (drop_of_length-le s h)
+  ends : (more : Begun) → words_from begun (slice_split is_blank (take n text)) at ≡ Ok more → n < length text
+      → ended_at more (at + n) ≡ read_from begun [] text at
+  ends more h l = rw first (sym (closing_ends text at more (rw first at l)) ∙ goes more h)
 
-pub loop-i-init : goal.loop-i-init
-loop-i-init c =
-    refl
+  begins : (more : Begun) → words_from begun (slice_split is_blank (take n text)) at ≡ Ok more → length text ≤ n
+      → Ok (More more) ≡ read_from begun [] text at
+  begins more h l = sym (closing_more text at more (rw first at l)) ∙ goes more h
 
-pub loop-i-smaller : goal.loop-i-smaller
-loop-i-smaller c =
-    let part = c.part_at in
-    let inside = c.loop-i-test in
-    let went = went_on part.result c.in-On.more c.in-On.next part.ensures (cc) in
-    omega arith
+pub returns-in_err-more : goal.returns-in_err-more
+returns-in_err-more c =
+    let same : c.from_residual.result ≡ Err c.in_err-more.field-0.0 = search rules in
+    same
+    ∙ rw (← c.from_place-text.ensures) (stops c.from_place-text.result.now c.args.begun c.args.at c.operation_length-n.result c.operation_length-n.ensures c.in_err-more.field-0.0 (sym c.words_read.ensures ∙ c.in_err-more.was))
 
-pub loop-i-preserved : goal.loop-i-preserved
-loop-i-preserved c =
-    let part = c.part_at in
-    c.loop-i.invariant
-    ∙ (went_on part.result c.in-On.more c.in-On.next part.ensures (cc)).1
-
-pub returns-in-Done : goal.returns-in-Done
-returns-in-Done c =
-    let part = c.part_at in
-    sym (c.loop-i.invariant ∙ came_to part.result c.in-Done.step part.ensures (cc))
+pub returns-then-n-text : goal.returns-then-n-text
+returns-then-n-text c =
+    c.ended.ensures
+    ∙ rw (← c.from_place-text.ensures) (ends c.from_place-text.result.now c.args.begun c.args.at c.operation_length-n.result c.operation_length-n.ensures c.in_ok-more.more (sym c.words_read.ensures ∙ c.in_ok-more.was) c.if-n-text.true)
 
 pub returns : goal.returns
 returns c =
-    let l = c.loop-i in sym (l.invariant ∙ past c.args.bytes.now l.i l.so_far (omega arith))
+    rw (← c.from_place-text.ensures) (begins c.from_place-text.result.now c.args.begun c.args.at c.operation_length-n.result c.operation_length-n.ensures c.in_ok-more.more (sym c.words_read.ensures ∙ c.in_ok-more.was) c.if-n-text.false)

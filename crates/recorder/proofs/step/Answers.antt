@@ -1,14 +1,14 @@
--- The step, as defined: the refusal's number decides, and a refused operation leaves the room as it was.
-use borrow.Author.Tests.{ne_eqb}
+-- The step, as defined: the refusal decides, and a refused operation leaves the room as it was.
+use Rattle.answer.proofs.Laws.{not_0}
 use Rattle.recorder.specs.Step.{step_of}
 use Rattle.recorder.proofs.step.Goals as goal
 
-pub returns-then-number-eq0 : goal.returns-then-number-eq0
+pub returns-in-None : goal.returns-in-None
 unfolding step_of
-returns-then-number-eq0 c =
-    rw (← c.refusal-number.ensures, c.if-number-eq0.true) c.accept.ensures
+returns-in-None c =
+    rw (← c.refusal.ensures, c.in-None.is) c.accept.ensures
 
-pub returns-else-number-eq0 : goal.returns-else-number-eq0
+pub returns-in-Some : goal.returns-in-Some
 unfolding step_of
-returns-else-number-eq0 c =
-    rw (← c.refusal-number.ensures, ne_eqb _ _ c.if-number-eq0.false)
+returns-in-Some c =
+    rw (← c.refusal.ensures, c.in-Some.is, not_0, c.into.ensures)

@@ -8,12 +8,12 @@ unfolding judged recorded_step
 returns-then-not-sound c =
     let s = c.sound in rw (← s.ensures, c.if-not-sound.true, c.refused.ensures)
 
-pub returns-in-Operation : goal.returns-in-Operation
+pub returns-in-Ok : goal.returns-in-Ok
 unfolding judged recorded_step
-returns-in-Operation c =
-    rw (← c.sound.ensures, c.if-not-sound.false, ← c.operation_at.ensures, c.in-Operation.is) (cc)
+returns-in-Ok c =
+    rw (← c.sound.ensures, c.if-not-sound.false, ← c.operation_at.ensures, c.in-Ok.is) (cc)
 
-pub returns-in-Refused : goal.returns-in-Refused
+pub returns-in-Err : goal.returns-in-Err
 unfolding judged recorded_step
-returns-in-Refused c =
-    rw (← c.sound.ensures, c.if-not-sound.false, ← c.operation_at.ensures, c.in-Refused.is, c.refused-in-Refused.ensures)
+returns-in-Err c =
+    rw (← c.sound.ensures, c.if-not-sound.false, ← c.operation_at.ensures, c.in-Err.is, c.refused-in-Err.ensures)

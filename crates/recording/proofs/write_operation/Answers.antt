@@ -44,13 +44,13 @@ module _ (x : Numbers) (at : ℕ) (out : List ℕ) (known : x.code ≤ last_code
 pub returns-then-x-gt-LAST_CODE-clause-value : goal.returns-then-x-gt-LAST_CODE-clause-value
 unfolding writing_of written_operation
 returns-then-x-gt-LAST_CODE-clause-value c =
-    let e = lt-ltb last_code c.args.x.code (omega arith) in rw e
+    let e = lt-ltb last_code c.args.x.code (omega arith) in rw e c.into.ensures
 
 pub returns-then-out-size-clause-value : goal.returns-then-out-size-clause-value
 returns-then-out-size-clause-value c =
     let a = c.args in
     let size = counted a.x c.field_count.result c.numbers_length-size.result c.field_count.ensures.0 c.numbers_length-size.ensures.0 in
-    (no_place a.x a.at a.out.now (omega arith) (omega arith)).0
+    c.into-then-out-size.ensures ∙ (no_place a.x a.at a.out.now (omega arith) (omega arith)).0
 
 pub returns-then-out-size-clause-out_after : goal.returns-then-out-size-clause-out_after
 returns-then-out-size-clause-out_after c =
@@ -62,7 +62,7 @@ pub returns-then-out-size-2-clause-value : goal.returns-then-out-size-2-clause-v
 returns-then-out-size-2-clause-value c =
     let a = c.args in
     let size = counted a.x c.field_count.result c.numbers_length-size.result c.field_count.ensures.0 c.numbers_length-size.ensures.0 in
-    (no_place a.x a.at a.out.now (omega arith) (omega arith)).0
+    c.into-then-out-size-2.ensures ∙ (no_place a.x a.at a.out.now (omega arith) (omega arith)).0
 
 pub returns-then-out-size-2-clause-out_after : goal.returns-then-out-size-2-clause-out_after
 returns-then-out-size-2-clause-out_after c =

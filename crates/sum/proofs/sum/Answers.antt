@@ -3,30 +3,30 @@ use Prim.Native.Nat.{suc, ◌+◌}
 use mathlib.Core.Path.{◌≡◌, ap, ◌∙◌}
 use native.Mathlib.Omega.{arith}
 use lib.ListN.{get_or}
-use Rattle.count.specs.Count.{decoded, spread_of}
+use Rattle.count.specs.Count.{decoded, refused_with, spread_of}
 use Rattle.sum.proofs.Left.{begins, turned, outside, ended}
 use Rattle.sum.proofs.sum.Goals as goal
 
-pub loop-i-init : goal.loop-i-init
-loop-i-init c =
+pub loop-cc-init : goal.loop-cc-init
+loop-cc-init c =
     begins _ (omega arith)
 
 pub returns-then-one-ne0 : goal.returns-then-one-ne0
 returns-then-one-ne0 c =
-    let is : c.spread-one.result ≡ spread_of (decoded (get_or c.args.run.now c.loop-i.i 0)) = c.spread-one.ensures ∙ ap spread_of c.decode.ensures in
-    c.refused.ensures
-    ∙ outside c.args.run.now c.loop-i.i c.loop-i.low c.loop-i.high c.loop-i.bounded c.loop-i.invariant (omega arith)
+    let is : c.spread-one.result ≡ spread_of (decoded (get_or c.args.run.now c.loop-cc.cc-index 0)) = c.spread-one.ensures ∙ ap spread_of c.decode.ensures in
+    c.refused.ensures ∙ ap refused_with c.number.ensures
+    ∙ outside c.args.run.now c.loop-cc.cc-index c.loop-cc.low c.loop-cc.high c.loop-cc.bounded c.loop-cc.invariant (omega arith)
     (rw is at c.if-one-ne0.true)
 
-pub loop-i-preserved : goal.loop-i-preserved
-loop-i-preserved c =
-    let is : c.spread-one.result ≡ spread_of (decoded (get_or c.args.run.now c.loop-i.i 0)) = c.spread-one.ensures ∙ ap spread_of c.decode.ensures in
-    let up : c.loop-i.i + 1 ≡ suc c.loop-i.i = omega arith in
+pub loop-cc-preserved : goal.loop-cc-preserved
+loop-cc-preserved c =
+    let is : c.spread-one.result ≡ spread_of (decoded (get_or c.args.run.now c.loop-cc.cc-index 0)) = c.spread-one.ensures ∙ ap spread_of c.decode.ensures in
+    let up : c.loop-cc.cc-index + 1 ≡ suc c.loop-cc.cc-index = omega arith in
     rw (up, c.plus-low.ensures, c.plus-high.ensures, is)
-    (turned c.args.run.now c.loop-i.i c.loop-i.low c.loop-i.high c.loop-i.bounded c.loop-i.invariant (omega arith)
+    (turned c.args.run.now c.loop-cc.cc-index c.loop-cc.low c.loop-cc.high c.loop-cc.bounded c.loop-cc.invariant (omega arith)
     (rw is at c.if-one-ne0.false))
 
 pub returns : goal.returns
 returns c =
     c.both_ends.ensures
-    ∙ ended c.args.run.now c.loop-i.i c.loop-i.low c.loop-i.high c.loop-i.bounded c.loop-i.invariant (omega arith)
+    ∙ ended c.args.run.now c.loop-cc.cc-index c.loop-cc.low c.loop-cc.high c.loop-cc.bounded c.loop-cc.invariant (omega arith)

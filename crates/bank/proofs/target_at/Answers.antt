@@ -1,6 +1,0 @@
--- One number of the record that a bank shows.
-use Rattle.bank.proofs.target_at.Goals as goal
-
-pub returns : goal.returns
-returns c =
-    cc
