@@ -49,6 +49,7 @@ pub fn is_register(r: u64) -> bool
 }
 
 // The n-bit of P that an access to the register looks at.
+#[tactic(auto, unfolding(crate::specs::Access::n_bit))]
 fn n_bit(s: State, writing: bool, r: u64) -> bool
     ensures { result ≡ n_bit s writing r }
 {
@@ -62,6 +63,7 @@ fn n_bit(s: State, writing: bool, r: u64) -> bool
     pick(record | (r == 4), s.p / NBRBDATA % 2 == 1, setting)
 }
 
+#[tactic(auto, unfolding(crate::specs::Access::trapped2))]
 fn trapped2(s: State, nbit: bool) -> bool
     ensures { result ≡ trapped2 s nbit }
 {
@@ -79,6 +81,7 @@ fn trapped3(s: State) -> bool
 
 // How an access ends, done where it is performed: `undefined` says what is undefined of the access itself, and
 // `nbit` is its n-bit of P.
+#[tactic(auto, unfolding(crate::specs::Access::outcome))]
 pub fn access_outcome(s: State, undefined: bool, nbit: bool) -> Answer
     ensures { result ≡ outcome s undefined nbit }
 {
@@ -94,6 +97,7 @@ pub fn access_outcome(s: State, undefined: bool, nbit: bool) -> Answer
     Answer::Done
 }
 
+#[tactic(auto, unfolding(crate::specs::Access::read_outcome))]
 pub fn read_outcome(s: State, r: u64) -> Answer
     ensures { result ≡ read_outcome s r }
 {
@@ -109,6 +113,7 @@ fn read_only(r: u64) -> bool
     (r == 0) | (r == 4) | record
 }
 
+#[tactic(auto, unfolding(crate::specs::Access::write_outcome))]
 pub fn write_outcome(s: State, r: u64) -> Answer
     ensures { result ≡ write_outcome s r }
 {
@@ -118,6 +123,7 @@ pub fn write_outcome(s: State, r: u64) -> Answer
 }
 
 // How BRB IALL ends.
+#[tactic(auto, unfolding(crate::specs::Access::iall_outcome))]
 pub fn iall_outcome(s: State) -> Answer
     ensures { result ≡ iall_outcome s }
 {
@@ -132,6 +138,7 @@ pub fn meant(s: State, r: u64) -> u64
 }
 
 // The number that a register of a record shows: BRBINF, BRBSRC or BRBTGT.
+#[tactic(auto, unfolding(crate::specs::Access::shown_record, crate::specs::Access::shown_number))]
 fn shown_number(s: State, room: &[u64], r: u64) -> u64
     ensures { result ≡ shown_number s (records s.size s.start room.now) r }
 {
@@ -147,6 +154,7 @@ fn brbidr0(s: State) -> u64
 }
 
 // What a performed read of a register shows.
+#[tactic(auto, unfolding(crate::specs::Access::register_value))]
 pub fn register_value(s: State, room: &[u64], r: u64) -> u64
     ensures { result ≡ register_value s (records s.size s.start room.now) r }
 {
@@ -159,6 +167,7 @@ pub fn register_value(s: State, room: &[u64], r: u64) -> u64
 }
 
 // A performed write keeps only the register's bits.
+#[tactic(auto, unfolding(crate::specs::Access::register_written))]
 pub fn register_written(s: State, r: u64, value: u64) -> State
     ensures { result ≡ register_written s r value }
 {

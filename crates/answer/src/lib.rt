@@ -61,7 +61,7 @@ pub enum Answer {
     Trap2,
     // Trapped to EL3.
     Trap3,
-    // The number of the refusal.
+    // The number of the refusal. (A number: `line::write_line` promises a line for each.)
     Refused(u64),
 }
 

@@ -69,7 +69,7 @@ impl<'a> BankView<'a> {
         record_from(self.records, self.size, self.start, self.first, m)
     }
 
-    // BRBINF of register m, or 0.
+    // BRBINF of register m, or 0. (Three thin functions, the form that document 01 names.)
     pub fn inf(self, m: u64) -> u64
         ensures { result ≡ (view_shows self.entry.size self.entry.start self.entry.first m self.entry.records.now).inf }
     {

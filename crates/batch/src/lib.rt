@@ -9,37 +9,19 @@ ghost use Rattle.batch.specs.Batch.{step_of_read, steps, in_numbers, batched, ba
 
 use answer::{Answer, Refusal};
 use recorder::lent_step;
-use recording::operation_at;
+use recording::{operation_at, pass};
 use state::load;
 
-// Where a run goes on behind what stands at a place: at its end, where no operation can be read there.
-fn next_at(bytes: &[u8], at: usize) -> usize
-    ensures { result ≡ place_after bytes.now (operation_at bytes.now at) }
-{
-    match operation_at(bytes, at) {
-        Ok((_, next)) => next,
-        Err(_) => bytes.len(),
-    }
-}
-
 // Whether at most so many operations of a run are answered. Each has two bytes at least, but for a last one that cannot be
-// read, so that a short run is not read for it; of another they are counted.
+// read, so that a short run is not read for it; of another they are counted, and one that cannot be read behind them is the last.
 fn at_most(bytes: &[u8], most: usize) -> bool
     ensures { result ≡ leb (length (readings bytes.now)) most }
 {
     if bytes.len() - bytes.len() / 2 <= most {
         return true;
     }
-    let mut at = 0;
-    let mut count = 0;
-    while at < bytes.len() {
-        if most <= count {
-            return false;
-        }
-        at = next_at(bytes, at);
-        count = count + 1;
-    }
-    true
+    let p = pass(bytes, 0, most);
+    p.count < most || bytes.len() <= p.at
 }
 
 // An answer at a place of the lent ones.
@@ -80,7 +62,8 @@ fn turn(
 }
 
 // All operations of a run that the lent answers have room for, and how many they are. The state stays in the lent numbers, so
-// that a batch and a single call come to the same step.
+// that a batch and a single call come to the same step. The loop ends with the run, at no count; and pairs of answers handed out by
+// `chunks_mut` are no form: behind such a loop a proof knows how many numbers they are, and not which.
 fn step_all(words: &mut [u64], room: &mut [u64], bytes: &[u8], answers: &mut [u64]) -> usize
     requires { 2 * length (readings bytes.now) ≤ length answers.old }
     ensures value { result ≡ length (readings bytes.now) }

@@ -71,7 +71,7 @@ pub fn brb_count_sum(run: &[u64]) -> Spread
     sum::sum(run)
 }
 
-// BRBINF of register m, as one bank of a room shows it.
+// BRBINF of register m, as one bank of a room shows it. (Three functions, since C calls three.)
 pub fn brb_bank_inf(room: &[u64], size: u64, start: u64, bank: u64, m: u64) -> Returned
     ensures { result ≡ returned (bank_shows (λ x. x.inf) size start bank m room.now) }
 {

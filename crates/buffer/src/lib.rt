@@ -30,6 +30,7 @@ impl Model for Output {
 }
 
 #[tactic(auto, using(crate::proofs::Laws::place_fits, crate::proofs::Laws::one_part, crate::proofs::Laws::and_part))]
+// (No `write!`: the library's clauses do not say when it is `Ok`, and each of these promises its bytes.)
 impl Output {
     // Nothing waits.
     pub fn new() -> Output

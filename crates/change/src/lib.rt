@@ -24,7 +24,7 @@ use region::prohibited;
 use room::Effect;
 use state::{DEBUG_STATE, Running, State};
 
-// The types of an exception return, of a halt and of a resume.
+// The types of an exception return, of a halt and of a resume: numbers, as BRBINF's TYPE has them and as a host hands others in.
 const RETURN: u64 = 7;
 
 const DEBUG_HALT: u64 = 0x21;
@@ -200,6 +200,7 @@ fn written(s: State, performed: bool, r: u64, value: u64) -> State
 }
 
 // A write, performed or not: it may turn counting on, or clear PAUSED.
+#[tactic(auto, unfolding(operation::specs::Clause::changed))]
 fn write_clause(s: State, hidden: bool, r: u64, value: u64) -> Clause
     ensures { result ≡ record { sets = changed s (Operation.Write r value); occasion = turned_counting_on s (Operation.Write r value) || cleared_paused s (Operation.Write r value); wanted = false; hides = hidden; event = event_from s 0 0 (side s) 0 0; otherwise = Effect.Keep; answer = write_outcome s r } }
 {

@@ -7,15 +7,15 @@ ghost use Rattle.compare.specs.Compare.{unlike, differing, rest, good, bad_of, u
 ghost use Rattle.compare.specs.Walk.{begun, stopped_at, met, turned, moved_to, over_equal, at_once, passed_both, SameBytes, Turned, bad_of_reading, bad_from, ended};
 
 use bits::pick;
+use number::has_room;
 use recording::{Damage, Numbers, operation_at, pass};
-use std::num::wrapping_add_u64;
 
-// Which recording: the first or the second; 0 is neither.
+// Which recording: the first or the second; 0 is neither. (Numbers, since C's `struct brb_parting` has them.)
 pub const FIRST: u64 = 1;
 
 pub const SECOND: u64 = 2;
 
-// The weights of what differs in two operations.
+// The weights of what differs in two operations, as C's `struct brb_parting` has them.
 pub const CODE: u64 = 1;
 
 pub const CYCLES: u64 = 2;
@@ -64,7 +64,7 @@ pub struct Walk {
     // How many pairs were equal at the front, and what differs in the first that was not, or 0.
     pub equal: u64,
     pub differing: u64,
-    // No end and no bad number was met.
+    // No end and no bad number was met. A field, since what `stopped`, `after` and `over` promise is a walk with it.
     pub going: bool,
 }
 
@@ -82,10 +82,7 @@ const AT_ONCE: usize = 1024;
 fn unlike_by(weight: u64, m: u64, n: u64) -> u64
     ensures { (result ≡ unlike weight m n) × (result ≤ weight) }
 {
-    if m == n {
-        return 0;
-    }
-    weight
+    if m == n { 0 } else { weight }
 }
 
 // What differs in two operations, as bits.
@@ -125,11 +122,12 @@ impl Walk {
     }
 
     // After a pair in which this differs, and the places behind it.
+    #[tactic(auto, unfolding(crate::specs::Walk::met))]
     pub fn after(self, difference: u64, next: usize, after: usize) -> Walk
         ensures { result ≡ met difference next after self }
     {
         let first = self.differing == 0;
-        let more = wrapping_add_u64(self.equal, 1);
+        let more = self.equal.wrapping_add(1);
         Walk {
             at: next,
             other: after,
@@ -146,9 +144,8 @@ impl Walk {
         Walk {
             at,
             other,
-            equal: self.equal,
-            differing: self.differing,
             going,
+            ..self
         }
     }
 
@@ -159,9 +156,9 @@ impl Walk {
         Walk {
             at,
             other,
-            equal: wrapping_add_u64(self.equal, count),
-            differing: self.differing,
+            equal: self.equal.wrapping_add(count),
             going: true,
+            ..self
         }
     }
 }
@@ -171,24 +168,16 @@ impl Walk {
 pub fn same_bytes(a: &[u8], at: usize, next: usize, b: &[u8], other: usize) -> bool
     ensures { (result ≡ true → SameBytes a.now at next b.now other) × (result ≡ false → SameBytes a.now at next b.now other → ⊥) }
 {
-    if next <= at {
-        return false;
-    }
-    if a.len() < next {
-        return false;
-    }
-    if b.len() < other {
+    if next <= at || a.len() < next {
         return false;
     }
     let size = next - at;
-    if b.len() - other < size {
+    if !has_room(b.len(), other, size) {
         return false;
     }
     let mut same = true;
-    let mut i = 0;
-    while i < size {
+    for i in 0..size {
         same = same & (a[at + i] == b[other + i]);
-        i = i + 1;
     }
     same
 }
@@ -229,7 +218,7 @@ fn turn(a: &[u8], b: &[u8], l: Leap) -> Leap
     if w.differing != 0 {
         return Leap {
             walk: pass_both(a, b, w),
-            most: l.most,
+            ..l
         };
     }
     if l.most == 0 {
@@ -243,12 +232,12 @@ fn turn(a: &[u8], b: &[u8], l: Leap) -> Leap
         let other = w.other + (p.at - w.at);
         return Leap {
             walk: w.over(p.at, other, p.count as u64),
-            most: l.most,
+            ..l
         };
     }
     Leap {
-        walk: w,
         most: l.most / 2,
+        ..l
     }
 }
 
@@ -274,10 +263,7 @@ fn bad_from(bytes: &[u8], place: usize) -> Option<Damage>
 fn left_from(at: usize, size: usize) -> usize
     ensures { result ≡ size - at }
 {
-    if at < size {
-        return size - at;
-    }
-    0
+    size.saturating_sub(at)
 }
 
 fn rest_from(of: u64, at: usize, size: usize) -> Rest
@@ -362,24 +348,18 @@ pub fn parting_of(a: &[u8], b: &[u8]) -> Parting
         walk: Walk::start(),
         most: AT_ONCE,
     };
-    let mut going = true;
-    while going {
+    // The loop ends with the walk, at no count.
+    while l.walk.going {
         l = turn(a, b, l);
-        let w = l.walk;
-        going = w.going;
     }
-    let w = l.walk;
-    parted_unless_bad(a, b, w)
+    parted_unless_bad(a, b, l.walk)
 }
 
 // A recording from a place on.
 fn part_from<'a>(bytes: &'a [u8], at: usize) -> &'a [u8]
     ensures { result.now ≡ drop at bytes.now }
 {
-    if at < bytes.len() {
-        return &bytes[at..];
-    }
-    &bytes[bytes.len()..]
+    &bytes[at.min(bytes.len())..]
 }
 
 // The rest as a part of the recording that it belongs to.

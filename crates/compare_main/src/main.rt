@@ -2,21 +2,22 @@
 // reads, writes or loops here promises nothing but that it ends.
 #![tactic(auto)]
 
-ghost use Rattle.std.specs.Prelude.{◌≡◌, true, take, if◌then◌else◌, ◌≢◌};
+ghost use Rattle.std.specs.Prelude.{◌≡◌, true, take, ◌≢◌};
 ghost use Rattle.recording.specs.Recording.{operation_at};
+ghost use Rattle.recording.specs.Run.{passed_from};
 ghost use Rattle.compare_main.specs.Pair.{met_at, ended_at, pair_at, moved_pair, Moved, more_of, told_of};
 ghost use Rattle.compare.specs.Walk.{SameBytes};
 
+use answer::Refusal;
 use arguments::{Called, look_two};
 use bits::pick;
 use buffer::{Output, ROOM, within};
 use compare::{FIRST, SECOND, Walk, bad_number, differing_of, parted, same_bytes};
 use comparison::{Told, put_told};
-use input::{AT_ONCE, FAILED, Window, found_at, passage_at, reading_at, refilled, turn};
+use input::{AT_ONCE, Stop, Window, found_at, passage_at, reading_at};
 use message::NamedInput;
 use program::Program;
-use recording::Numbers;
-use std::num::{wrapping_add_u64, wrapping_sub_u64};
+use recording::{Damage, Numbers, Passage};
 
 // Two inputs that are read together: what of each is in its buffer, how far the walk along both is, and the pair that is kept.
 #[derive(Clone, Copy)]
@@ -28,214 +29,180 @@ struct Pair {
     y: Numbers,
 }
 
-// One of two operations.
-fn chosen(test: bool, x: Numbers, y: Numbers) -> Numbers
-    ensures { result ≡ (if test then x else y) }
+impl Pair {
+    // Before the first.
+    fn begin() -> Pair {
+        let none = Numbers::new(0, 0, 0, 0, 0, 0);
+        Pair {
+            first: Window::begin(),
+            second: Window::begin(),
+            walk: Walk::start(),
+            x: none,
+            y: none,
+        }
+    }
+
+    // After a pair that was read.
+    fn met(self, x: Numbers, next: usize, y: Numbers, after: usize) -> Pair
+        ensures { result ≡ met_at x next y after self }
+    {
+        let first = self.first.passed(next, 1);
+        let second = self.second.passed(after, 1);
+        let equal = self.walk.differing == 0;
+        Pair {
+            first,
+            second,
+            walk: self.walk.after(
+                differing_of(x, y),
+                first.place() as usize,
+                second.place() as usize,
+            ),
+            x: pick(equal, x, self.x),
+            y: pick(equal, y, self.y),
+        }
+    }
+
+    // The walk ends.
+    fn ended(self) -> Pair
+        ensures { result ≡ ended_at self }
+    {
+        Pair {
+            walk: self.walk.stopped(),
+            ..self
+        }
+    }
+
+    // Behind so many operations of both, of which so many are equal pairs.
+    fn moved(self, next: usize, after: usize, count: u64, equal: u64) -> Pair
+        ensures { result ≡ moved_pair next after count equal self }
+    {
+        let first = self.first.passed(next, count);
+        let second = self.second.passed(after, count);
+        Pair {
+            first,
+            second,
+            walk: self
+                .walk
+                .over(first.place() as usize, second.place() as usize, equal),
+            ..self
+        }
+    }
+
+    // What is told of two recordings that were read to their ends.
+    fn told(self, first: Window, second: Window) -> Told
+        ensures { result ≡ told_of first second self }
+    {
+        let parting = parted(first.place() as usize, second.place() as usize, self.walk);
+        let longer = pick(parting.ending == FIRST, second.operations, first.operations);
+        Told {
+            parting,
+            x: self.x,
+            y: self.y,
+            left: more(longer, self.first.operations),
+        }
+    }
+}
+
+// How many more of two counts the one has, modulo 2^64, as both are counted.
+fn more(count: u64, than: u64) -> u64
+    ensures { result ≡ more_of count than }
 {
-    if test { x } else { y }
+    count.wrapping_sub(than)
 }
 
-// After a pair that was read.
-fn met_pair(x: Numbers, next: usize, y: Numbers, after: usize, p: Pair) -> Pair
-    ensures { result ≡ met_at x next y after p }
-{
-    let one = p.first;
-    let two = p.second;
-    let walk = p.walk;
-    let first = one.passed(next, 1);
-    let second = two.passed(after, 1);
-    let place = first.place();
-    let other = second.place();
-    let equal = walk.differing == 0;
-    Pair {
-        first,
-        second,
-        walk: walk.after(differing_of(x, y), place as usize, other as usize),
-        x: chosen(equal, x, p.x),
-        y: chosen(equal, y, p.y),
+// One of the two inputs, the first or the second, through its buffer: there may be more to read of it, or why there is not.
+#[derive(Drop)]
+struct Side<'a> {
+    which: u64,
+    input: &'a mut NamedInput,
+    bytes: [u8; ROOM],
+    standing: Result<(), Stop>,
+}
+
+impl<'a> Side<'a> {
+    fn new(which: u64, input: &'a mut NamedInput) -> Side<'a> {
+        Side {
+            which,
+            input,
+            bytes: [0; ROOM],
+            standing: Ok(()),
+        }
     }
-}
 
-// The walk ends.
-fn ended_pair(mut p: Pair) -> Pair
-    ensures { result ≡ ended_at p }
-{
-    let walk = p.walk;
-    p.walk = walk.stopped();
-    p
-}
-
-// The pair that stands next in both.
-fn next_pair(a: &[u8; ROOM], b: &[u8; ROOM], p: Pair) -> Pair
-    ensures { result ≡ pair_at (operation_at (take p.first.end a.now) p.first.start) (operation_at (take p.second.end b.now) p.second.start) p }
-{
-    let first = p.first;
-    let second = p.second;
-    let Ok((x, next)) = reading_at(a, first.end, first.start) else {
-        return ended_pair(p);
-    };
-    let Ok((y, after)) = reading_at(b, second.end, second.start) else {
-        return ended_pair(p);
-    };
-    met_pair(x, next, y, after, p)
-}
-
-// Behind so many operations of both, of which so many are equal pairs.
-fn moved_pair(next: usize, after: usize, count: u64, equal: u64, p: Pair) -> Pair
-    ensures { result ≡ moved_pair next after count equal p }
-{
-    let one = p.first;
-    let two = p.second;
-    let walk = p.walk;
-    let first = one.passed(next, count);
-    let second = two.passed(after, count);
-    let place = first.place();
-    let other = second.place();
-    let x = p.x;
-    let y = p.y;
-    Pair {
-        first,
-        second,
-        walk: walk.over(place as usize, other as usize, equal),
-        x,
-        y,
+    // The bytes that are there.
+    fn there(&self, w: Window) -> &[u8]
+        ensures { result.now ≡ take w.end self.now.bytes }
+    {
+        let n = within(w.end, &self.bytes);
+        &self.bytes[..n]
     }
-}
 
-// Whether the bytes of the first up to `next` stand in the second too, where both are there.
-fn same_at(a: &[u8], first: Window, next: usize, b: &[u8], second: Window) -> bool
-    ensures { result ≡ true → SameBytes (take first.end a.now) first.start next (take second.end b.now) second.start }
-{
-    let n = within(first.end, a);
-    let m = within(second.end, b);
-    same_bytes(&a[..n], first.start, next, &b[..m], second.start)
-}
-
-// Many pairs at once where no pair was unequal yet: operations whose bytes stand in both. Else the pair that stands next.
-fn leap_pair(a: &[u8; ROOM], b: &[u8; ROOM], p: Pair) -> Pair
-    ensures { p.walk.differing ≡ 0 → Moved (take p.first.end a.now) (take p.second.end b.now) p result }
-{
-    let first = p.first;
-    let second = p.second;
-    let q = passage_at(a, first.end, first.start, AT_ONCE);
-    if same_at(a, first, q.at, b, second) {
-        let after = second.start + (q.at - first.start);
-        return moved_pair(q.at, after, q.count as u64, q.count as u64, p);
+    // The operation that stands next.
+    fn reading(&self, w: Window) -> Result<(Numbers, usize), Damage>
+        ensures { result ≡ operation_at (take w.end self.now.bytes) w.start }
+    {
+        reading_at(&self.bytes, w.end, w.start)
     }
-    next_pair(a, b, p)
-}
 
-// Many behind an unequal pair: as many operations of the first as of the second. Else the pair that stands next.
-fn pass_pair(a: &[u8; ROOM], b: &[u8; ROOM], p: Pair) -> Pair
-    ensures { (p.walk.differing ≢ 0) → Moved (take p.first.end a.now) (take p.second.end b.now) p result }
-{
-    let first = p.first;
-    let second = p.second;
-    let q = passage_at(a, first.end, first.start, AT_ONCE);
-    let s = passage_at(b, second.end, second.start, q.count);
-    if s.count == 0 {
-        return next_pair(a, b, p);
+    // Operations from there on, at most so many, passed.
+    fn passage(&self, w: Window, most: usize) -> Passage
+        ensures { result ≡ passed_from most (take w.end self.now.bytes) w.start }
+    {
+        passage_at(&self.bytes, w.end, w.start, most)
     }
-    if s.count < q.count {
-        let fewer = passage_at(a, first.end, first.start, s.count);
-        return moved_pair(fewer.at, s.at, s.count as u64, 0, p);
+
+    // Reads once.
+    fn refill(&mut self, w: &mut Window) -> Result<(), Stop> {
+        self.standing = w.refill(self.input, &mut self.bytes);
+        self.standing
     }
-    moved_pair(q.at, s.at, s.count as u64, 0, p)
-}
 
-// Pairs, as many as can be had at once.
-fn next_pairs(a: &[u8; ROOM], b: &[u8; ROOM], p: Pair) -> Pair
-    ensures { Moved (take p.first.end a.now) (take p.second.end b.now) p result }
-{
-    let walk = p.walk;
-    if walk.differing == 0 {
-        return leap_pair(a, b, p);
+    // Reads on to its end, or to its first bad number. A proved loop has to end, and nothing says that an input does: no run uses
+    // up so many turns.
+    fn read_on(&mut self, w: &mut Window) -> Stop {
+        for _ in 0..u64::MAX {
+            if let Err(stop) = self.standing {
+                return stop;
+            }
+            self.standing = w.turn(self.input, &mut self.bytes);
+        }
+        Stop::Ended
     }
-    pass_pair(a, b, p)
-}
 
-// A pair with one window read on; the walk ends where that could not be.
-fn with_first(first: Window, mut p: Pair) -> Pair {
-    p.first = first;
-    if first.going { p } else { ended_pair(p) }
-}
-
-fn with_second(second: Window, mut p: Pair) -> Pair {
-    p.second = second;
-    if second.going { p } else { ended_pair(p) }
-}
-
-// Reads once.
-fn read_once(
-    program: Program,
-    input: &mut NamedInput,
-    bytes: &mut [u8; ROOM],
-    w: Window,
-) -> Window {
-    refilled(program, &mut input.reader, input.name.text(), bytes, w)
-}
-
-// Compares pairs, or reads once where too little is there to be sure of a whole operation.
-fn walk_turn(
-    program: Program,
-    one: &mut NamedInput,
-    two: &mut NamedInput,
-    a: &mut [u8; ROOM],
-    b: &mut [u8; ROOM],
-    p: Pair,
-) -> Pair {
-    let first = p.first;
-    let second = p.second;
-    if first.needs_more() {
-        return with_first(read_once(program, one, a, first), p);
+    // The same, with the window there; none where it cannot be read so far, which is told. What the system could not read was said
+    // before.
+    fn read_to_end(&mut self, numbers: bool, mut w: Window) -> Option<Window> {
+        match self.read_on(&mut w) {
+            Stop::Ended => Some(w),
+            Stop::Damaged(refusal) => {
+                self.tell_bad(numbers, refusal, w);
+                None
+            }
+            Stop::Failed => None,
+        }
     }
-    if second.needs_more() {
-        return with_second(read_once(program, two, b, second), p);
-    }
-    next_pairs(a, b, p)
-}
 
-// A proved loop has to end, and nothing says that an input does. So the loop counts its turns down, from a number that no run
-// uses up.
-fn walk_all(
-    program: Program,
-    one: &mut NamedInput,
-    two: &mut NamedInput,
-    a: &mut [u8; ROOM],
-    b: &mut [u8; ROOM],
-) -> Pair {
-    let mut p = Pair {
-        first: Window::begin(),
-        second: Window::begin(),
-        walk: Walk::start(),
-        x: Numbers::new(0, 0, 0, 0, 0, 0),
-        y: Numbers::new(0, 0, 0, 0, 0, 0),
-    };
-    let mut going = true;
-    let mut turns = u64::MAX;
-    while turns > 0 && going {
-        p = walk_turn(program, one, two, a, b, p);
-        let walk = p.walk;
-        going = walk.going;
-        turns -= 1;
+    // A recording cannot be read on: what is wrong is said, and with `--numbers` the numbers too.
+    fn tell_bad(&self, numbers: bool, refusal: Refusal, w: Window) {
+        if numbers {
+            let none = Numbers::new(0, 0, 0, 0, 0, 0);
+            tell(
+                self.input.program,
+                true,
+                Told {
+                    parting: bad_number(self.which, refusal.number(), w.place() as usize),
+                    x: none,
+                    y: none,
+                    left: 0,
+                },
+            );
+        }
+        self.input.say_damage(
+            w.place(),
+            w.operations.wrapping_add(1),
+            found_at(&self.bytes, w.end, w.start),
+        );
     }
-    p
-}
-
-// Reads one input on to its end, or to its first bad number.
-fn read_to_end(
-    program: Program,
-    input: &mut NamedInput,
-    bytes: &mut [u8; ROOM],
-    begun: Window,
-) -> Window {
-    let mut w = begun;
-    let mut turns = u64::MAX;
-    while turns > 0 && w.going {
-        w = turn(program, &mut input.reader, input.name.text(), bytes, w);
-        turns -= 1;
-    }
-    w
 }
 
 // What is told goes out.
@@ -245,84 +212,130 @@ fn tell(program: Program, numbers: bool, t: Told) {
     out.flush(program);
 }
 
-// A recording cannot be read on: what is wrong is said, and with `--numbers` the numbers too. What the system could not read was
-// said before.
-fn tell_bad(
-    program: Program,
+// The comparison of two inputs, and whether it is told in numbers.
+#[derive(Drop)]
+struct Comparison<'a> {
     numbers: bool,
-    which: u64,
-    input: &NamedInput,
-    bytes: &[u8; ROOM],
-    w: Window,
-) {
-    if w.number == FAILED {
-        return;
-    }
-    if numbers {
-        let parting = bad_number(which, w.number, w.place() as usize);
-        let none = Numbers::new(0, 0, 0, 0, 0, 0);
-        tell(
-            program,
-            true,
-            Told {
-                parting,
-                x: none,
-                y: none,
-                left: 0,
-            },
-        );
-    }
-    input.say_damage(
-        w.place(),
-        wrapping_add_u64(w.operations, 1),
-        found_at(bytes, w.end, w.start),
-    );
+    first: Side<'a>,
+    second: Side<'a>,
+    pair: Pair,
 }
 
-// How many more of two counts the one has, modulo 2^64, as both are counted.
-fn more(count: u64, than: u64) -> u64
-    ensures { result ≡ more_of count than }
-{
-    wrapping_sub_u64(count, than)
-}
+impl<'a> Comparison<'a> {
+    // After the pair that stands next in both.
+    fn next_pair(&self) -> Pair
+        ensures { result ≡ pair_at (operation_at (take self.now.pair.first.end self.now.first.bytes) self.now.pair.first.start) (operation_at (take self.now.pair.second.end self.now.second.bytes) self.now.pair.second.start) self.now.pair }
+    {
+        let p = self.pair;
+        let Ok((x, next)) = self.first.reading(p.first) else {
+            return p.ended();
+        };
+        let Ok((y, after)) = self.second.reading(p.second) else {
+            return p.ended();
+        };
+        p.met(x, next, y, after)
+    }
 
-// What is told of two recordings that were read to their ends.
-fn told_of(first: Window, second: Window, p: Pair) -> Told
-    ensures { result ≡ told_of first second p }
-{
-    let walk = p.walk;
-    let one = first.place();
-    let two = second.place();
-    let parting = parted(one as usize, two as usize, walk);
-    let begun = p.first;
-    let longer = pick(parting.ending == 1, second.operations, first.operations);
-    let x = p.x;
-    let y = p.y;
-    Told {
-        parting,
-        x,
-        y,
-        left: more(longer, begun.operations),
+    // Whether the bytes of the first up to `next` stand in the second too, where both are there.
+    fn same_to(&self, next: usize) -> bool
+        ensures { result ≡ true → SameBytes (take self.now.pair.first.end self.now.first.bytes) self.now.pair.first.start next (take self.now.pair.second.end self.now.second.bytes) self.now.pair.second.start }
+    {
+        let first = self.pair.first;
+        let second = self.pair.second;
+        let bytes = self.first.there(first);
+        let others = self.second.there(second);
+        same_bytes(bytes, first.start, next, others, second.start)
+    }
+
+    // Many pairs at once where no pair was unequal yet: operations whose bytes stand in both. Else the pair that stands next.
+    fn leap(&self) -> Pair
+        requires { self.now.pair.walk.differing ≡ 0 }
+        ensures { Moved (take self.now.pair.first.end self.now.first.bytes) (take self.now.pair.second.end self.now.second.bytes) self.now.pair result }
+    {
+        let p = self.pair;
+        let q = self.first.passage(p.first, AT_ONCE);
+        if self.same_to(q.at) {
+            let after = p.second.start + (q.at - p.first.start);
+            return p.moved(q.at, after, q.count as u64, q.count as u64);
+        }
+        self.next_pair()
+    }
+
+    // Many behind an unequal pair: as many operations of the first as of the second. Else the pair that stands next.
+    fn pass(&self) -> Pair
+        requires { self.now.pair.walk.differing ≢ 0 }
+        ensures { Moved (take self.now.pair.first.end self.now.first.bytes) (take self.now.pair.second.end self.now.second.bytes) self.now.pair result }
+    {
+        let p = self.pair;
+        let q = self.first.passage(p.first, AT_ONCE);
+        let s = self.second.passage(p.second, q.count);
+        if s.count == 0 {
+            return self.next_pair();
+        }
+        if s.count < q.count {
+            let fewer = self.first.passage(p.first, s.count);
+            return p.moved(fewer.at, s.at, s.count as u64, 0);
+        }
+        p.moved(q.at, s.at, s.count as u64, 0)
+    }
+
+    // After pairs, as many as can be had at once.
+    fn next_pairs(&self) -> Pair
+        ensures { Moved (take self.now.pair.first.end self.now.first.bytes) (take self.now.pair.second.end self.now.second.bytes) self.now.pair result }
+    {
+        if self.pair.walk.differing == 0 {
+            return self.leap();
+        }
+        self.pass()
+    }
+
+    // Compares pairs, or reads once where too little is there to be sure of a whole operation.
+    fn turn(&mut self) -> Result<(), Stop> {
+        if self.pair.first.needs_more() {
+            return self.first.refill(&mut self.pair.first);
+        }
+        if self.pair.second.needs_more() {
+            return self.second.refill(&mut self.pair.second);
+        }
+        self.pair = self.next_pairs();
+        if self.pair.walk.going {
+            Ok(())
+        } else {
+            Err(Stop::Ended)
+        }
+    }
+
+    // Along both, as far as pairs can be read. The loop is bounded as an input's is.
+    fn walk(&mut self) {
+        for _ in 0..u64::MAX {
+            if self.turn().is_err() {
+                return;
+            }
+        }
+    }
+
+    // Both are read to their ends before anything is told, since a bad number anywhere in either is all that is then told, the
+    // first's before the second's.
+    fn run(&mut self) -> Option<Told> {
+        self.walk();
+        let p = self.pair;
+        let first = self.first.read_to_end(self.numbers, p.first)?;
+        let second = self.second.read_to_end(self.numbers, p.second)?;
+        Some(p.told(first, second))
     }
 }
 
-// Compares the two inputs. Both are read to their ends before anything is told, since a bad number anywhere in either is all that
-// is then told, the first's before the second's.
+// Compares the two inputs, and tells where they part.
 fn compare_inputs(program: Program, one: &mut NamedInput, two: &mut NamedInput, numbers: bool) {
-    let mut a = [0u8; ROOM];
-    let mut b = [0u8; ROOM];
-    let p = walk_all(program, one, two, &mut a, &mut b);
-    let first = read_to_end(program, one, &mut a, p.first);
-    if first.number != 0 {
-        tell_bad(program, numbers, FIRST, one, &a, first);
-        return;
+    let mut comparison = Comparison {
+        numbers,
+        first: Side::new(FIRST, one),
+        second: Side::new(SECOND, two),
+        pair: Pair::begin(),
+    };
+    if let Some(told) = comparison.run() {
+        tell(program, numbers, told);
     }
-    let second = read_to_end(program, two, &mut b, p.second);
-    if second.number != 0 {
-        tell_bad(program, numbers, SECOND, two, &b, second);
-        return;
-    }
-    tell(program, numbers, told_of(first, second, p));
 }
 
 fn main(rt: HostRuntime) {

@@ -6,11 +6,10 @@ ghost use Rattle.buffer.specs.Buffer.{Put};
 ghost use Rattle.comparison.specs.Comparison.{counted, equal_line, left_line, unequal_lines, last_line, lines, numbers_of, told};
 
 use buffer::Output;
-use compare::{Parting, Rest};
+use compare::{FIRST, Parting, Rest, SECOND};
 use difference::put_differing;
 use readable::{put_readable, put_spaced};
 use recording::Numbers;
-use std::num::wrapping_add_u64;
 
 // What is told of two recordings: where they part, their first unequal pair, where there is one, and how many operations are
 // left of the longer.
@@ -49,7 +48,7 @@ fn put_unequal(out: &mut Output, t: Told)
     let parting = t.parting;
     let x = t.x;
     let y = t.y;
-    out.decimal(b"operation ", wrapping_add_u64(parting.equal, 1));
+    out.decimal(b"operation ", parting.equal.wrapping_add(1));
     out.text(b" differs in ");
     put_differing(out, x.code, parting.differing);
     out.text(b":\n    ");
@@ -76,14 +75,14 @@ fn put_last(out: &mut Output, t: Told)
 {
     let parting = t.parting;
     let rest = parting.rest;
-    if parting.ending == 1 {
+    if parting.ending == FIRST {
         put_left(
             out,
             b"the first ends first; left of the second: ",
             t.left,
             rest,
         );
-    } else if parting.ending == 2 {
+    } else if parting.ending == SECOND {
         put_left(
             out,
             b"the second ends first; left of the first: ",

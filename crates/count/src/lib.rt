@@ -8,7 +8,8 @@ ghost use Rattle.count.specs.Count.{encoded, decoded, from_to, at_least, refused
 use answer::Refusal;
 use bits::pick;
 
-// What a CC value says of the count.
+// What a CC value says of the count. (One type of three ways, since the field has three: an option around two would part what its table
+// lists side by side.)
 #[derive(Clone, Copy)]
 pub enum Decoded {
     // The smallest and the largest count that have this encoding.
@@ -19,7 +20,7 @@ pub enum Decoded {
     Refused,
 }
 
-// The counts that an encoding, or a run of them, may stand for, as a host is answered.
+// The counts that an encoding, or a run of them, may stand for, as a host is answered. (Numbers, since C's `struct brb_spread` has them.)
 #[repr(C)]
 #[derive(Clone, Copy)]
 pub struct Spread {

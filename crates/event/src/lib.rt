@@ -52,7 +52,8 @@ fn by_level(s: State, level: u64, in1: bool, in2: bool) -> bool
     pick(level == 3, el3, below3)
 }
 
-// An exception to this level is recorded: the level that it enters controls it.
+// An exception to this level is recorded: the level that it enters controls it. (One call each, here and below, of two rules of Arm's.)
+#[tactic(auto, unfolding(crate::specs::Event::controlled))]
 pub fn exception_controlled(s: State, level: u64) -> bool
     ensures { result ≡ controlled s 23 level }
 {
@@ -65,6 +66,7 @@ pub fn exception_controlled(s: State, level: u64) -> bool
 }
 
 // An exception return is recorded: the level that it leaves controls it.
+#[tactic(auto, unfolding(crate::specs::Event::controlled))]
 pub fn return_controlled(s: State) -> bool
     ensures { result ≡ controlled s 22 s.level }
 {
@@ -85,6 +87,7 @@ fn valid(source: bool, target: bool) -> u64
     pick(source, hidden, shown)
 }
 
+#[tactic(auto, unfolding(crate::specs::Event::count_unknown))]
 fn count_unknown(s: State, r: Running) -> bool
     ensures { result ≡ count_unknown s r }
 {
@@ -126,6 +129,7 @@ fn brbinf(s: State, r: Running, e: Event, source: bool, target: bool) -> u64
 }
 
 // The record of an event: 0 stands for the address of a prohibited side. `source` and `target` say which sides are.
+#[tactic(auto, unfolding(crate::specs::Hidden::record_by))]
 pub fn record_of(s: State, r: Running, e: Event, source: bool, target: bool) -> Record
     ensures { result ≡ record_by source target s r e }
 {
@@ -137,6 +141,7 @@ pub fn record_of(s: State, r: Running, e: Event, source: bool, target: bool) -> 
 }
 
 // An event with these prohibited sides becomes a record, where `wanted` is what its filter or control says.
+#[tactic(auto, unfolding(crate::specs::Hidden::becomes_by))]
 pub fn becomes_record(s: State, wanted: bool, source: bool, target: bool) -> bool
     ensures { result ≡ becomes_by source target s wanted }
 {

@@ -9,7 +9,7 @@ ghost use Rattle.filter.specs.Filter.{branch_types, exception_types, filter_bit,
 // EnI of BRBFCR_EL1, as the power of two that it weighs.
 const ENI: u64 = 0x1_0000;
 
-// A branch type, by its code in BRBINF's TYPE field.
+// A branch type, by its code in BRBINF's TYPE field: constants of the type are the form that document 01 names, and any code is asked for.
 #[derive(Clone, Copy)]
 pub struct BranchType {
     pub code: u64,
@@ -41,6 +41,7 @@ impl BranchType {
     }
 
     // The bit of BRBFCR_EL1 that the type answers to.
+    #[tactic(auto, unfolding(crate::specs::Filter::filter_bit))]
     pub fn filter_bit(self) -> u64
         ensures value { result ≡ filter_bit self }
         ensures upper_bound { result ≤ 22 }
@@ -57,6 +58,7 @@ impl BranchType {
     }
 
     // The filter lets a branch of this type through.
+    #[tactic(auto, unfolding(crate::specs::Filter::passes_filter))]
     pub fn passes_filter(self, brbfcr: u64) -> bool
         ensures { result ≡ passes_filter brbfcr self }
     {

@@ -14,7 +14,7 @@ const FZP: u64 = 0x100;
 
 const TS: u64 = 0x20;
 
-// What TS can choose.
+// What TS can choose: the field's own numbers, as the register holds them.
 const VIRTUAL: u64 = 1;
 
 const GUEST: u64 = 2;
@@ -29,6 +29,7 @@ fn controlled(s: State, group: u64) -> bool
 }
 
 // An overflow of a counter of the group freezes.
+#[tactic(auto, unfolding(crate::specs::Freeze::freezes))]
 fn freezes(s: State, group: u64) -> bool
     ensures { result ≡ freezes s group }
 {
@@ -50,10 +51,11 @@ fn ts(s: State) -> u64
 fn difference(count: u64, offset: u64) -> u64
     ensures { result ≡ difference count offset }
 {
-    std::num::wrapping_sub_u64(count, offset)
+    count.wrapping_sub(offset)
 }
 
 // The time of a freeze. `offset` is the virtual offset, whose word is the language's own, and `guest` the guest offset.
+#[tactic(auto, unfolding(crate::specs::Freeze::time))]
 fn time(s: State, physical: u64, offset: u64, guest: u64) -> u64
     ensures { result ≡ time s physical offset guest }
 {
@@ -64,6 +66,7 @@ fn time(s: State, physical: u64, offset: u64, guest: u64) -> u64
 }
 
 // The state after an overflow of a counter of the group, frozen or not.
+#[tactic(auto, unfolding(crate::specs::Freeze::overflowed))]
 pub fn overflowed(s: State, group: u64, physical: u64, offset: u64, guest: u64) -> State
     ensures { result ≡ overflowed s group physical offset guest }
 {

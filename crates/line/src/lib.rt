@@ -8,6 +8,7 @@ ghost use Rattle.line.specs.Turn.{turn_of};
 ghost use Rattle.line.specs.Line.{line_of, line_written, line_count};
 
 use answer::Answer;
+use number::has_room;
 use recording::{recorded_step, stops_reading};
 use state::State;
 use text::{write_decimal, write_hexadecimal, write_text};
@@ -53,14 +54,12 @@ fn line_at(out: &mut [u8], at: usize, answer: Answer) -> usize
 }
 
 // The line of an answer at a place of lent bytes, and its length; nothing where the longest line has no room there.
+#[tactic(auto, unfolding(crate::specs::Line::line_written, crate::specs::Line::line_count))]
 pub fn write_line(out: &mut [u8], at: usize, answer: Answer) -> usize
     ensures value { result ≡ line_count out.old at answer }
     ensures out_after { out.new ≡ line_written out.old at answer }
 {
-    if out.len() < LONGEST_LINE {
-        return 0;
-    }
-    if out.len() - LONGEST_LINE < at {
+    if !has_room(out.len(), at, LONGEST_LINE) {
         return 0;
     }
     line_at(out, at, answer)
@@ -74,7 +73,7 @@ pub struct Turn {
     pub next: usize,
     // How many of the lent bytes hold lines.
     pub used: usize,
-    // Reading stops here.
+    // Reading stops here. (A flag, since state, place and lines are told in both cases.)
     pub stops: bool,
 }
 

@@ -95,7 +95,7 @@ fn with_digit<const BASE: u32>(value: u64, byte: u8) -> Result<u64, Problem>
     appended::<BASE>(value, digit).ok_or(Problem::TooLarge)
 }
 
-// The number that digits of a base come to. The base is a constant, so that each instance divides by a constant.
+// The number that digits of a base come to. The base is a constant, so that each instance multiplies by a constant.
 #[tactic(auto, using(crate::proofs::Words::digits_end, crate::proofs::Words::digit_wrong, crate::proofs::Words::digit_passed))]
 fn digits_of<const BASE: u32>(word: &[u8]) -> Result<u64, Problem>
     requires { (2 ≤ BASE) × (BASE ≤ 16) }

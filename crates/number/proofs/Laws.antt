@@ -8,6 +8,8 @@ use native.Mathlib.Nat.{pow-suc, add-zero}
 use native.Mathlib.Omega.{arith}
 use borrow.Author.Tests.{lt-ltb, le-ltb, le-leb, lt-leb, eq-eqb, ne_eqb}
 use lib.ListN.{length, take, drop, get_or, set, length-append, length-drop}
+use Rattle.std.proofs.Math.Pow.{pow_mono}
+use Rattle.std.proofs.lemmas.Nat.{pow_pos, pow-add}
 use lib.Seq.{drop-drop, drop_at, get_or-drop, length-take-le, sets, sets-eq, length-sets}
 use mir.Val.{Fits}
 use mir.Syntax.{w8}
@@ -67,6 +69,25 @@ length_in (suc k) n =
 pub length_of : (n : ℕ) → (1 ≤ length (bytes_of n)) × (length (bytes_of n) ≤ 10)
 unfolding bytes_of
 length_of n = let h = length_in 10 n in (h.0 (omega arith), h.1)
+
+-- One byte, and several
+pub one_byte : (n : ℕ) → n < 2 ^ 64 → length (bytes_of n) ≡ 1 → n < 128
+one_byte n w e =
+    ⊎_elim (λ l. l) (λ g. absurd (omega (arith, ap length (more_of_lem n g w), length_of (n / 128)))) (below_or_not n 128)
+
+pub several_bytes : (n : ℕ) → 1 < length (bytes_of n) → 128 ≤ n
+several_bytes n h = ⊎_elim (λ l. absurd (omega (arith, ap length (last_of n l)))) (λ g. g) (below_or_not n 128)
+
+-- By the place of its highest binary digit.
+pub length_by : (k e n : ℕ) → 7 * k ≤ e → e < 7 * k + 7 → 2 ^ e ≤ n → n < 2 * 2 ^ e → n < 2 ^ 64 → length (bytes_of n) ≡ k + 1
+length_by zero e n l u low high w = rw (last_of n (omega (arith, pow_mono {i = e} {j = 6} (omega arith)))) refl
+length_by (suc k) e n l u low high w =
+    let same : e ≡ e - 7 + 7 = omega arith in
+    let shifted : 2 ^ e ≡ 2 ^ (e - 7) * 128 = ap (λ (k : ℕ). 2 ^ k) same ∙ pow-add 2 (e - 7) 7 in
+    let some = pow_pos (e - 7) in
+    rw
+    (more_of_lem n (omega arith) w)
+    (omega (arith, length_by k (e - 7) (n / 128) (omega arith) (omega arith) (omega arith) (omega arith) (omega arith)))
 
 byte_in : (k n i : ℕ) → get_or (bytes_in k n) i 0 < 256
 unfolding bytes_in

@@ -1,7 +1,7 @@
 -- One number of a recording: its digits in base 128, lowest first, a byte each, with the byte's top bit saying that another
 -- follows. Only the shortest form counts, of a number below 2^64, which has ten digits at most. So AC 02 is 44 + 2 × 128, and
 -- 80 00, a 0 with a digit too many, is no number. Document 01, "Recordings"; docs/MANUAL.md, "Recordings".
-use Rattle.std.specs.Prelude.{ℕ, zero, suc, ◌+◌, ◌*◌, ◌-◌, ◌^◌, ◌/◌, ◌%◌, cond, ◌||◌, List, [], ◌∷◌, ◌++◌, leb, ltb, eqb, length, take, drop, Result, Ok, Err}
+use Rattle.std.specs.Prelude.{ℕ, zero, suc, ◌+◌, ◌*◌, ◌-◌, ◌^◌, ◌/◌, ◌%◌, cond, ◌||◌, List, [], ◌∷◌, ◌++◌, leb, ltb, eqb, length, take, drop, Option, Some, None, Result, Ok, Err}
 use Rattle.number.specs.declared.Fault.{Fault}
 use Rattle.number.specs.declared.Fault.TheVariants.{Malformed, Ended}
 
@@ -26,10 +26,10 @@ number_in (suc allowed) (b ∷ bytes) at = cond (ltb b 128) (Ok (b, at + 1)) (co
 unfoldable pub number_at : List ℕ → ℕ → Found
 number_at bytes at = number_in 10 (drop at bytes) at
 
--- The place after the number that was found; 0, which is after none, where none was.
-abbrev pub end_of_number : Found → ℕ
-end_of_number (Ok (n, next)) = next
-end_of_number (Err fault) = 0
+-- The place after the number that was found, where one was.
+abbrev pub end_of_number : Found → Option ℕ
+end_of_number (Ok (n, next)) = Some next
+end_of_number (Err fault) = None
 
 -- The bytes of n, where it has at most so many digits in base 128.
 unfoldable pub bytes_in : ℕ → ℕ → List ℕ

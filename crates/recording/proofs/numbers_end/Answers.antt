@@ -1,4 +1,4 @@
--- Where so many numbers end. The loop's invariant: where those that are left end is where all do. The measure is how many are left.
+-- Where so many numbers end. The loop's invariant: where those that are left end is where all do.
 use Prim.Native.Nat.{ℕ, suc, ◌+◌, ◌-◌}
 use mathlib.Core.Path.{◌≡◌, sym, ap, ◌∙◌}
 use native.Mathlib.Omega.{arith}
@@ -7,31 +7,42 @@ use Rattle.recording.specs.Run.{end_of_several}
 use Rattle.recording.proofs.End.{end_on, end_none}
 use Rattle.recording.proofs.numbers_end.Goals as goal
 
--- A bad number.
-pub returns-then-next-eq0 : goal.returns-then-next-eq0
-returns-then-next-eq0 c =
+pub loop-init : goal.loop-init
+loop-init c =
     let a = c.args in
-    let bytes = a.bytes.now in
-    let k = a.count - c.loop-i.i - 1 in
-    let some : suc k ≡ a.count - c.loop-i.i = omega arith in
-    sym (end_none k bytes c.loop-i.next c.number_end-next.result c.number_end-next.ensures.0 c.if-next-eq0.true)
-    ∙ ap (λ (j : ℕ). end_of_several (numbers_at j bytes c.loop-i.next)) some
-    ∙ c.loop-i.invariant.0
+    let all : a.count - 0 ≡ a.count = omega arith in
+    (ap (λ (j : ℕ). end_of_several (numbers_at j a.bytes.now a.at)) all, omega arith)
+
+pub number_end-requires : goal.number_end-requires
+number_end-requires c =
+    omega arith
+
+-- A bad number.
+pub returns-in_err-next : goal.returns-in_err-next
+returns-in_err-next c =
+    let a = c.args in
+    let l = c.loop in
+    let k = a.count - l.counter - 1 in
+    let some : suc k ≡ a.count - l.counter = omega arith in
+    c.from_residual.ensures
+    ∙ sym (end_none k a.bytes.now l.next (sym c.in_err-next.was ∙ c.number_end.ensures.end))
+    ∙ ap (λ (j : ℕ). end_of_several (numbers_at j a.bytes.now l.next)) some
+    ∙ l.invariant.0
 
 -- One number more.
-pub loop-i-preserved : goal.loop-i-preserved
-loop-i-preserved c =
+pub loop-preserved : goal.loop-preserved
+loop-preserved c =
     let a = c.args in
-    let bytes = a.bytes.now in
-    let k = a.count - (c.loop-i.i + 1) in
-    let some : suc k ≡ a.count - c.loop-i.i = omega arith in
-    let on = end_on k bytes c.loop-i.next c.number_end-next.result c.number_end-next.ensures.0 c.if-next-eq0.false in
-    (sym on ∙ ap (λ (j : ℕ). end_of_several (numbers_at j bytes c.loop-i.next)) some ∙ c.loop-i.invariant.0, omega arith, omega (arith, c.loop-i.invariant.2, c.number_end-next.ensures.1))
+    let l = c.loop in
+    let k = a.count - (l.counter + 1) in
+    let some : suc k ≡ a.count - l.counter = omega arith in
+    let on = end_on k a.bytes.now l.next c.in_ok-next.next (sym c.in_ok-next.was ∙ c.number_end.ensures.end) in
+    (sym on ∙ ap (λ (j : ℕ). end_of_several (numbers_at j a.bytes.now l.next)) some ∙ l.invariant.0, omega (arith, c.in_ok-next.ensures.near))
 
 -- All of them.
 pub returns : goal.returns
 unfolding numbers_at
 returns c =
-    let a = c.args in
-    let none : 0 ≡ a.count - c.loop-i.i = omega arith in
-    ap (λ (j : ℕ). end_of_several (numbers_at j a.bytes.now c.loop-i.next)) none ∙ c.loop-i.invariant.0
+    let l = c.loop in
+    let none : 0 ≡ c.args.count - l.counter = omega arith in
+    ap (λ (j : ℕ). end_of_several (numbers_at j c.args.bytes.now l.next)) none ∙ l.invariant.0

@@ -1,5 +1,6 @@
--- Reading an operation, as defined: the code decides first.
+-- Reading an operation, as defined: the code decides first, and then what is read behind it.
 use native.Mathlib.Omega.{arith}
+use mathlib.Core.Path.{◌∙◌}
 use borrow.Author.Tests.{lt-ltb, le-ltb}
 use Rattle.operation.specs.Operation.{last_code}
 use Rattle.recording.specs.Recording.{operation_at}
@@ -17,7 +18,12 @@ unfolding operation_at
 returns-then-code-gt-LAST_CODE c =
     rw (← c.number_from.ensures, c.in_ok-code.was, lt-ltb last_code c.in_ok-code.code (omega arith))
 
-pub returns : goal.returns
+pub returns-in-Ok : goal.returns-in-Ok
 unfolding operation_at
-returns c =
-    rw (← c.number_from.ensures, c.in_ok-code.was, le-ltb last_code c.in_ok-code.code (omega arith), ← c.fields_at.ensures)
+returns-in-Ok c =
+    rw (← c.number_from.ensures, c.in_ok-code.was, le-ltb last_code c.in_ok-code.code (omega arith)) (rw c.in-Ok.is at c.fields_at-end.ensures)
+
+pub returns-in-Err : goal.returns-in-Err
+unfolding operation_at
+returns-in-Err c =
+    rw (← c.number_from.ensures, c.in_ok-code.was, le-ltb last_code c.in_ok-code.code (omega arith)) (rw c.in-Err.is at c.fields_at-end.ensures)

@@ -1,5 +1,4 @@
--- Operations are passed as defined. The loop's invariant: those that are left to be passed, after those that were, are all. The
--- measure is how many may be left.
+-- Operations are passed as defined. The loop's invariant: those that are left to be passed, after those that were, are all.
 use Prim.Native.Nat.{ℕ, suc, ◌+◌, ◌-◌}
 use mathlib.Core.Path.{◌≡◌, sym, ap, ◌∙◌}
 use native.Mathlib.Omega.{arith}
@@ -12,33 +11,37 @@ last : (count at : ℕ) → record { count = count; at = at } ≡ ahead count (r
 last count at = let none : count ≡ count + 0 = omega arith in λ i. record { count = none i; at = at }
 
 -- What cannot be read.
-pub returns-then-next-eq0 : goal.returns-then-next-eq0
-returns-then-next-eq0 c =
+pub returns-in_default : goal.returns-in_default
+returns-in_default c =
     let a = c.args in
-    let bytes = a.bytes.now in
-    let j = a.most - c.loop-count.count - 1 in
-    let some : suc j ≡ a.most - c.loop-count.count = omega arith in
-    last c.loop-count.count c.loop-count.place
-    ∙ ap (ahead c.loop-count.count) (sym (none_passed bytes c.type_inv.bytes c.loop-count.place j c.end_at-next.result c.end_at-next.ensures c.if-next-eq0.true))
-    ∙ ap (λ (m : ℕ). ahead c.loop-count.count (passed_from m bytes c.loop-count.place)) some
-    ∙ c.loop-count.invariant.0
+    let l = c.loop-count in
+    let j = a.most - l.count - 1 in
+    let some : suc j ≡ a.most - l.count = omega arith in
+    last l.count l.place
+    ∙ ap (ahead l.count) (sym (none_passed a.bytes.now l.place j (sym c.in_default.is ∙ c.end_at.ensures)))
+    ∙ ap (λ (m : ℕ). ahead l.count (passed_from m a.bytes.now l.place)) some
+    ∙ l.invariant
 
 -- One operation more.
 pub loop-count-preserved : goal.loop-count-preserved
 loop-count-preserved c =
     let a = c.args in
-    let bytes = a.bytes.now in
-    let j = a.most - (c.loop-count.count + 1) in
-    let some : suc j ≡ a.most - c.loop-count.count = omega arith in
-    let on = one_passed bytes c.type_inv.bytes c.loop-count.place j c.loop-count.count c.end_at-next.result c.end_at-next.ensures c.if-next-eq0.false in
-    (on ∙ ap (λ (m : ℕ). ahead c.loop-count.count (passed_from m bytes c.loop-count.place)) some ∙ c.loop-count.invariant.0, omega arith)
+    let l = c.loop-count in
+    let j = a.most - (l.count + 1) in
+    let some : suc j ≡ a.most - l.count = omega arith in
+    one_passed a.bytes.now l.place j l.count c.in-Some.next (sym c.in-Some.is ∙ c.end_at.ensures)
+    ∙ ap (λ (m : ℕ). ahead l.count (passed_from m a.bytes.now l.place)) some
+    ∙ l.invariant
 
 -- As many as may be.
 pub returns : goal.returns
 unfolding passed_from
 returns c =
     let a = c.args in
-    let none : 0 ≡ a.most - c.loop-count.count = omega arith in
-    last c.loop-count.count c.loop-count.place
-    ∙ ap (λ (m : ℕ). ahead c.loop-count.count (passed_from m a.bytes.now c.loop-count.place)) none
-    ∙ c.loop-count.invariant.0
+    let l = c.loop-count in
+    let all : a.most ≡ l.count = omega arith in
+    let none : 0 ≡ a.most - l.count = omega arith in
+    ap (λ (n : ℕ). record { count = n; at = l.place }) all
+    ∙ last l.count l.place
+    ∙ ap (λ (m : ℕ). ahead l.count (passed_from m a.bytes.now l.place)) none
+    ∙ l.invariant

@@ -1,14 +1,15 @@
 -- Writing an operation, as defined: each way out knows the refusal, and the bytes are those of the operation's own numbers.
-use Prim.Native.Nat.{ℕ, ◌+◌, ◌≤◌, ◌<◌}
-use mathlib.Core.Path.{◌≡◌, ap, ◌∙◌}
+use Prim.Native.Nat.{ℕ, ◌+◌, ◌≤◌}
+use mathlib.Core.Path.{◌≡◌, sym, ap, ◌∙◌}
+use mathlib.Core.Bool.{Bool, true, false}
+use lib.Dec.{leb}
 use mathlib.Core.List.{List, [], ◌∷◌}
 use native.Mathlib.Numerals.{add-two}
 use native.Mathlib.Omega.{arith}
-use borrow.Author.Tests.{lt-ltb, le-ltb, lt-leb, le-leb}
+use borrow.Author.Tests.{lt-ltb, le-ltb}
 use lib.ListN.{length, take}
 use Rattle.answer.specs.declared.Answer.TheVariants.{Value, Refused}
-use Rattle.number.specs.Number.{written}
-use Rattle.number.proofs.Written.{no_room, room}
+use Rattle.number.specs.Number.{written, written_if}
 use Rattle.operation.specs.Operation.{last_code}
 use Rattle.recording.specs.declared.Numbers.{Numbers}
 use Rattle.recording.specs.Recording.{field_count, bytes_of_all, operation_bytes, writing_of, written_operation}
@@ -26,63 +27,57 @@ counted : (x : Numbers) (count size : ℕ) → count ≡ field_count x.code
     → size ≡ length (operation_bytes x)
 counted x count size e h = h ∙ ap length (own_bytes x count e)
 
--- The answers of an operation whose code is known, by the room.
-module _ (x : Numbers) (at : ℕ) (out : List ℕ) (known : x.code ≤ last_code) where
-  no_place : length out < at + length (operation_bytes x) → (Refused 6 ≡ writing_of x at out) × (out ≡ written_operation x at out)
-  unfolding writing_of written_operation
-  no_place h =
-      let e = le-ltb last_code x.code known in
-      (rw (e, lt-leb (at + length (operation_bytes x)) (length out) h), rw e (no_room out at (operation_bytes x) h).1)
+-- The answers of an operation whose code is known, by what is told of the room.
+module _ (x : Numbers) (at : ℕ) (out : List ℕ) (size : ℕ) (test : Bool) (known : x.code ≤ last_code) (e : size ≡ length (operation_bytes x)) (t : test ≡ leb (at + size) (length out)) where
+  told : test ≡ leb (at + length (operation_bytes x)) (length out)
+  told = rw (← e) t
 
-  a_place : at + length (operation_bytes x) ≤ length out
-      → (Value (length (operation_bytes x)) ≡ writing_of x at out) × (written out at (operation_bytes x) ≡ written_operation x at out)
-  unfolding writing_of written_operation
-  a_place h =
-      let e = le-ltb last_code x.code known in
-      (rw (e, le-leb (at + length (operation_bytes x)) (length out) h), rw e (room out at (operation_bytes x) h).1)
+  no_place : test ≡ false → (Refused 6 ≡ writing_of x at out) × (out ≡ written_operation x at out)
+  unfolding writing_of written_operation written_if
+  no_place f =
+      let no = sym told ∙ f in let code = le-ltb last_code x.code known in (rw (code, no), rw (code, no))
+
+  a_place : test ≡ true → (Value size ≡ writing_of x at out) × (written out at (operation_bytes x) ≡ written_operation x at out)
+  unfolding writing_of written_operation written_if
+  a_place f =
+      let yes = sym told ∙ f in let code = le-ltb last_code x.code known in (rw (code, yes) (ap Value e), rw (code, yes))
 
 pub returns-then-x-gt-LAST_CODE-clause-value : goal.returns-then-x-gt-LAST_CODE-clause-value
-unfolding writing_of written_operation
+unfolding writing_of
 returns-then-x-gt-LAST_CODE-clause-value c =
     let e = lt-ltb last_code c.args.x.code (omega arith) in rw e c.into.ensures
 
-pub returns-then-out-size-clause-value : goal.returns-then-out-size-clause-value
-returns-then-out-size-clause-value c =
-    let a = c.args in
-    let size = counted a.x c.field_count.result c.numbers_length-size.result c.field_count.ensures.0 c.numbers_length-size.ensures.0 in
-    c.into-then-out-size.ensures ∙ (no_place a.x a.at a.out.now (omega arith) (omega arith)).0
+pub returns-then-x-gt-LAST_CODE-clause-out_after : goal.returns-then-x-gt-LAST_CODE-clause-out_after
+unfolding written_operation
+returns-then-x-gt-LAST_CODE-clause-out_after c = let e = lt-ltb last_code c.args.x.code (omega arith) in rw e
 
-pub returns-then-out-size-clause-out_after : goal.returns-then-out-size-clause-out_after
-returns-then-out-size-clause-out_after c =
+pub returns-then-not-has_room-clause-value : goal.returns-then-not-has_room-clause-value
+returns-then-not-has_room-clause-value c =
     let a = c.args in
-    let size = counted a.x c.field_count.result c.numbers_length-size.result c.field_count.ensures.0 c.numbers_length-size.ensures.0 in
-    (no_place a.x a.at a.out.now (omega arith) (omega arith)).1
+    let n = c.numbers_length-size in
+    let size = counted a.x c.field_count.result n.result c.field_count.ensures.0 n.ensures.0 in
+    c.into-then-not-has_room.ensures ∙ (no_place a.x a.at a.out.now n.result c.has_room.result (omega arith) size c.has_room.ensures c.if-not-has_room.true).0
 
-pub returns-then-out-size-2-clause-value : goal.returns-then-out-size-2-clause-value
-returns-then-out-size-2-clause-value c =
+pub returns-then-not-has_room-clause-out_after : goal.returns-then-not-has_room-clause-out_after
+returns-then-not-has_room-clause-out_after c =
     let a = c.args in
-    let size = counted a.x c.field_count.result c.numbers_length-size.result c.field_count.ensures.0 c.numbers_length-size.ensures.0 in
-    c.into-then-out-size-2.ensures ∙ (no_place a.x a.at a.out.now (omega arith) (omega arith)).0
-
-pub returns-then-out-size-2-clause-out_after : goal.returns-then-out-size-2-clause-out_after
-returns-then-out-size-2-clause-out_after c =
-    let a = c.args in
-    let size = counted a.x c.field_count.result c.numbers_length-size.result c.field_count.ensures.0 c.numbers_length-size.ensures.0 in
-    (no_place a.x a.at a.out.now (omega arith) (omega arith)).1
+    let n = c.numbers_length-size in
+    let size = counted a.x c.field_count.result n.result c.field_count.ensures.0 n.ensures.0 in
+    (no_place a.x a.at a.out.now n.result c.has_room.result (omega arith) size c.has_room.ensures c.if-not-has_room.true).1
 
 pub returns-clause-value : goal.returns-clause-value
 returns-clause-value c =
     let a = c.args in
-    let size = counted a.x c.field_count.result c.numbers_length-size.result c.field_count.ensures.0 c.numbers_length-size.ensures.0 in
-    let (count, content) = a_place a.x a.at a.out.now (omega arith) (omega arith) in ap Value size ∙ count
+    let n = c.numbers_length-size in
+    let size = counted a.x c.field_count.result n.result c.field_count.ensures.0 n.ensures.0 in
+    (a_place a.x a.at a.out.now n.result c.has_room.result (omega arith) size c.has_room.ensures c.if-not-has_room.false).0
 
 pub returns-clause-out_after : goal.returns-clause-out_after
 returns-clause-out_after c =
     let a = c.args in
-    let size = counted a.x c.field_count.result c.numbers_length-size.result c.field_count.ensures.0 c.numbers_length-size.ensures.0 in
-    let n = c.field_count in
-    let (count, content) = a_place a.x a.at a.out.now (omega arith) (omega arith) in c.write_numbers.ensures ∙ ap (written a.out.now a.at) (own_bytes a.x n.result n.ensures.0) ∙ content
-
-pub returns-then-x-gt-LAST_CODE-clause-out_after : goal.returns-then-x-gt-LAST_CODE-clause-out_after
-unfolding writing_of written_operation
-returns-then-x-gt-LAST_CODE-clause-out_after c = let e = lt-ltb last_code c.args.x.code (omega arith) in rw e
+    let n = c.numbers_length-size in
+    let f = c.field_count in
+    let size = counted a.x f.result n.result f.ensures.0 n.ensures.0 in
+    c.write_numbers.ensures
+    ∙ ap (written a.out.now a.at) (own_bytes a.x f.result f.ensures.0)
+    ∙ (a_place a.x a.at a.out.now n.result c.has_room.result (omega arith) size c.has_room.ensures c.if-not-has_room.false).1

@@ -1,11 +1,7 @@
--- `room::clear` meets its contract. The invariant of its loop: the first i numbers are 0 and the others as they were, and i
--- is within the needed room; the measure is what is left of that.
-use Prim.Native.Nat.{◌+◌, ◌≤◌}
-use native.Mathlib.Omega.{arith}
-use mathlib.Core.Path.{◌≡◌, ◌∙◌}
-use lib.ListN.{length, length-set}
+-- `room::clear` meets its contract. The invariant of its loop: the first of the needed numbers are 0 and the others as they were.
+use Rattle.std.proofs.Common.{ℕ, List, [], ◌++◌, ◌≡◌, ap, arith, length, take, drop, replicate, append-nil, length-take-le, drop_of_length-le, le-leb}
+use Rattle.std.proofs.lemmas.Bool.{lt-leb}
 use borrow.Author.Fill.{fill_more}
-use borrow.Author.Tests.{le-leb, lt-leb}
 use Rattle.room.specs.Room.{needed, cleared}
 use Rattle.room.proofs.clear.Goals as goal
 
@@ -15,19 +11,19 @@ returns-then-room-count c =
     let a = c.args in
     rw (lt-leb (needed a.size) (length a.room.now) (omega arith))
 
-pub loop-i-preserved : goal.loop-i-preserved
-loop-i-preserved c =
-    let a = c.args in
-    let i = c.loop-i.i in
-    let within : i + 1 ≤ needed a.size = omega arith in (
-      rw c.loop-i.invariant.0 (fill_more i 0 a.room.now (omega arith)),
-      within,
-      length-set c.loop-i.room i 0 ∙ c.loop-i.invariant.2,
-    )
+pub loop-number-preserved : goal.loop-number-preserved
+loop-number-preserved c =
+    let l = c.loop-number in
+    let a = c.args in rw l.invariant (fill_more l.number-index 0 (take (needed a.size) a.room.now) (omega arith))
 
 pub returns : goal.returns
 unfolding cleared
 returns c =
     let a = c.args in
-    let done : c.loop-i.i ≡ needed a.size = omega arith in
-    rw (le-leb (needed a.size) (length a.room.now) (omega arith)) (rw done at c.loop-i.invariant.0)
+    let l = c.loop-number in
+    let items = take (needed a.size) a.room.now in
+    let size : length items ≡ needed a.size = length-take-le (needed a.size) a.room.now (omega arith) in
+    let done : l.number-index ≡ needed a.size = omega arith in
+    let none : drop (needed a.size) items ≡ [] = drop_of_length-le items (omega arith) in
+    let zeros : l.number-items ≡ replicate (needed a.size) 0 = rw (done, none, append-nil) at l.invariant in
+    rw (le-leb (needed a.size) (length a.room.now) (omega arith)) (ap (λ (front : List ℕ). front ++ drop (needed a.size) a.room.now) zeros)
