@@ -7,7 +7,7 @@ use Rattle.answer.specs.declared.Refusal.{Refusal}
 use Rattle.answer.specs.declared.Refusal.TheVariants.{MalformedNumber, UnknownCode, NotReset, OutsideList, WrongLevel, RoomTooShort, NotSound, WrongHalted, SumPasses}
 use Rattle.answer.specs.declared.Returned.{Returned}
 
--- The number of each refusal: the table's, of the whole operation 1 to 7; 8 is document 02's, Five, and 9 its, Four.
+-- The number of each refusal: 1 to 7 are those of document 01's table, 8 is document 02's, "Five", and 9 its, "Four".
 abbrev pub refusal_number : Refusal → ℕ
 refusal_number MalformedNumber = 1
 refusal_number UnknownCode = 2

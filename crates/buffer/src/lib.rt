@@ -29,8 +29,8 @@ impl Model for Output {
     ghost invariant = { λ o. o.used < 2 ^ 64 };
 }
 
-#[tactic(auto, using(crate::proofs::Laws::place_fits, crate::proofs::Laws::one_part, crate::proofs::Laws::and_part))]
 // (No `write!`: the library's clauses do not say when it is `Ok`, and each of these promises its bytes.)
+#[tactic(auto, using(crate::proofs::Laws::place_fits, crate::proofs::Laws::one_part, crate::proofs::Laws::and_part))]
 impl Output {
     // Nothing waits.
     pub fn new() -> Output
