@@ -1,8 +1,7 @@
 // Numbers as text, to a recording on standard output.
 #![tactic(auto)]
 
-ghost use Rattle.std.specs.Prelude.{◌≤◌, length};
-ghost use Rattle.buffer.specs.Buffer.{Put};
+ghost use Rattle.std.specs.Prelude.{◌≡◌, ◌+◌, ◌≤◌, ◌++◌, length};
 ghost use Rattle.operation.specs.Operation.{last_code};
 ghost use Rattle.recording.specs.declared.Numbers.{Numbers};
 ghost use Rattle.recording.specs.Recording.{operation_bytes};
@@ -58,8 +57,8 @@ fn zeros(bytes: &[u8]) -> usize
 
 // An operation's bytes behind what waits. None is refused: its code is known, and it has room.
 fn put(out: &mut Output, x: Numbers)
-    requires { x.code ≤ last_code }
-    ensures { Put out.old (operation_bytes x) out.new }
+    requires { (x.code ≤ last_code) × (length out.old + 60 ≤ 65536) }
+    ensures { out.new ≡ out.old ++ operation_bytes x }
 {
     let mut bytes = [0u8; LONGEST_OPERATION];
     if let Answer::Value(n) = write_operation(&mut bytes, 0, x) {

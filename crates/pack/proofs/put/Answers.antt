@@ -65,17 +65,19 @@ wrote x out after a n k long e f is =
 
 pub slice_bounds-bytes-end : goal.slice_bounds-bytes-end
 slice_bounds-bytes-end c =
-    let e = c.write_operation.ensures in (wrote c.args.x _ _ _ _ c.requires refl e.value e.out_after c.in-Value.is).within
+    let e = c.write_operation.ensures in (wrote c.args.x _ _ _ _ c.requires.0 refl e.value e.out_after c.in-Value.is).within
 
 pub slice_bounds-text-end : goal.slice_bounds-text-end
 slice_bounds-text-end c =
-    let e = c.write_operation.ensures in (wrote c.args.x _ _ _ _ c.requires refl e.value e.out_after c.in-Value.is).size
+    let e = c.write_operation.ensures in (wrote c.args.x _ _ _ _ c.requires.0 refl e.value e.out_after c.in-Value.is).size
 
 pub returns-in-Value : goal.returns-in-Value
 returns-in-Value c =
-    let e = c.write_operation.ensures in rw (wrote c.args.x _ _ _ _ c.requires refl e.value e.out_after c.in-Value.is).bytes at c.text.ensures
+    let e = c.write_operation.ensures in
+    (rw (wrote c.args.x _ _ _ _ c.requires.0 refl e.value e.out_after c.in-Value.is).bytes at c.text.ensures).held
+    (omega (arith, operation_size c.args.x, c.requires.1))
 
 -- It is no other answer.
 pub returns-in_default : goal.returns-in_default
 returns-in_default c =
-    let e = c.write_operation.ensures in absurd (c.in_default.not-Value _ (e.value ∙ answers c.args.x 0 _ c.requires (omega arith)))
+    let e = c.write_operation.ensures in absurd (c.in_default.not-Value _ (e.value ∙ answers c.args.x 0 _ c.requires.0 (omega arith)))
