@@ -1,70 +1,33 @@
--- Reading on, word by word: the words of a part that ends no operation, and what stands behind it.
+-- Reading on, part by part: white space, a word, an operation's end.
 use Prim.Native.Nat.{ℕ, ◌+◌, ◌≤◌, ◌<◌}
-use mathlib.Core.Path.{◌≡◌, refl, sym, ap, subst, ◌∙◌}
-use mathlib.Core.Bool.{Bool, true, false, cond, ◌||◌}
+use mathlib.Core.Path.{◌≡◌, refl, ◌∙◌}
+use mathlib.Core.Bool.{Bool, true, false, ◌||◌}
 use mathlib.Core.Logic.{⊎_elim}
 use mathlib.Core.List.{List, [], ◌∷◌, ◌++◌, append_assoc, append-nil}
 use native.Mathlib.Nat.{add-zero}
-use native.Mathlib.Numerals.{one-add}
 use native.Mathlib.Omega.{arith}
 use borrow.Author.Tests.{lt-ltb, le-ltb, eqb-true}
 use lib.Dec.{eqb}
-use lib.ListN.{length, take, length-append}
-use Rattle.std.proofs.Common.{Result, Ok, Err}
-use Rattle.std.specs.Bool.{MatchBool}
-use Rattle.std.specs.List.{All, IsFirstMatchOrLen, position_or_len, onto_first, slice_split}
-use Rattle.std.proofs.lemmas.Grind.{common_steps}
-use Rattle.std.proofs.lemmas.List.Splits.{slice_split_none, slice_split_at, length-slice_split}
+use lib.ListN.{length, drop, get_or, drop_of_length-le}
+use lib.Seq.{drop-drop}
+use Rattle.std.proofs.Common.{Ok, Err}
 use Rattle.operation.specs.Operation.{last_code}
 use Rattle.recording.specs.Recording.{field_count}
 use Rattle.bits.proofs.Cases.{either, never, one_of_two, below_or_not}
 use Rattle.notation.specs.declared.Begun.{Begun}
 use Rattle.notation.specs.declared.Problem.{Problem}
-use Rattle.notation.specs.declared.Wrong.{Wrong}
 use Rattle.notation.specs.declared.Step.TheVariants.{More}
-use Rattle.notation.specs.Words.{is_blank, ends_operation, Meaning, meaning_of}
+use Rattle.notation.specs.Words.{is_blank, ends_operation, separating, word_in, Meaning, meaning_of}
 use Rattle.notation.specs.Reading.{Outcome, wrong, added, ended_at, with_meaning, with_word, read_from, Known}
-use Rattle.notation.specs.Places.{with_one, behind_words, words_from}
+use Rattle.notation.proofs.Words.{from_byte, word_goes}
 
--- The first word of a part, and what is left behind it, if there is a blank.
-abbrev pub Cut : List ℕ → List ℕ → Bool → List ℕ → Type 0
-Cut part word last rest = MatchBool last (part ≡ word) ((b : ℕ) × (part ≡ word ++ (b ∷ rest)))
+neither : (t u : Bool) → t || u ≡ false → (t ≡ false) × (u ≡ false)
+neither true u e = never (cc)
+neither false u e = (refl, e)
 
-first_word : (part word rest : List ℕ) (last : Bool) → Cut part word last rest → IsFirstMatchOrLen is_blank part (length word)
-    → slice_split is_blank part ≡ word ∷ cond last [] (slice_split is_blank rest)
-first_word part word rest true e h =
-    ap (slice_split is_blank) e
-    ∙ slice_split_none is_blank word (λ k d l. subst (λ (bytes : List ℕ). is_blank (lib.ListN.get_or bytes k d) ≡ false) e (h.0 k d (omega arith) l))
-first_word part word rest false e h =
-    let front : All (λ b. is_blank b ≡ false) word = λ k d l. let a = h.0 k d (omega arith) l in let b = e.1 in grind (arith, common_steps) in
-    let hit : is_blank e.0 ≡ true = let b = e.1 in let a = h.1 (grind (arith, common_steps)) e.0 in grind (arith, common_steps) in
-    ap (slice_split is_blank) e.1 ∙ slice_split_at is_blank word e.0 rest front hit
-
-pub first_length : (part word rest : List ℕ) (last : Bool) → Cut part word last rest → length word + 1 + cond last 0 (length rest + 1) ≡ length part + 1
-first_length part word rest true e = omega (arith, ap length e)
-first_length part word rest false e = omega (arith, simp length-append at (ap length e.1))
-
--- Words from a place on, where the first is no number, or has none wrong.
-module _ (begun : Begun) (word : List ℕ) (words : List (List ℕ)) (at : ℕ) where
-  pub word_passed : (more : Begun) → with_one begun word at ≡ Ok more → words_from begun (word ∷ words) at ≡ words_from more words (at + length word + 1)
-  unfolding words_from
-  word_passed more e = ap (behind_words (λ more. words_from more words (at + length word + 1))) e
-
-  pub word_wrong : (e : Wrong) → with_one begun word at ≡ Err e → words_from begun (word ∷ words) at ≡ Err e
-  unfolding words_from
-  word_wrong e f = ap (behind_words (λ more. words_from more words (at + length word + 1))) f
-
--- What the words of a part come to, told by its first.
-pub words_of_part : {outcome : Result Begun Wrong} (begun : Begun) (part word rest : List ℕ) (done last : Bool) (at : ℕ) → done ≡ false
-    → Cut part word last rest
-    → IsFirstMatchOrLen is_blank part (length word)
-    → words_from begun (cond done [] (slice_split is_blank part)) at ≡ outcome
-    → words_from begun (word ∷ cond last [] (slice_split is_blank rest)) at ≡ outcome
-words_of_part begun part word rest done last at d cut first e = rw (d, first_word part word rest last cut first) at e
-
-pub no_words : (begun : Begun) (at : ℕ) → words_from begun [] at ≡ Ok begun
-unfolding words_from
-no_words begun at = refl
+other : (t u : Bool) → t || u ≡ true → t ≡ false → u ≡ true
+other true u e f = never (cc)
+other false u e f = e
 
 -- What ends an operation is no white space.
 pub end_no_blank : (b : ℕ) → ends_operation b ≡ true → is_blank b ≡ false
@@ -74,130 +37,96 @@ end_no_blank b e =
     (λ (f : eqb b 10 ≡ true). rw (eqb-true b 10 f))
     (one_of_two (eqb b 35 || eqb b 47) (eqb b 10) e)
 
--- The part of a text before what ends the operation, and what that comes to.
-abbrev pub front : List ℕ → List ℕ
-front text = take (position_or_len ends_operation text) text
+-- The bytes of a word are gathered.
+pub gathered : (text : List ℕ) (begun : Begun) (word : List ℕ) (at : ℕ)
+    → read_from begun word text at ≡ read_from begun (word ++ word_in text) (drop (length (word_in text)) text) at
+unfolding read_from word_in
+gathered [] begun word at = rw append-nil
+gathered (b ∷ text) begun word at =
+    ⊎_elim (λ (e : separating b ≡ true). rw (e, append-nil))
+    (λ (e : separating b ≡ false).
+    let n = neither (is_blank b) (ends_operation b) e in
+    rw (e, n.0, n.1) (gathered text begun (word ++ (b ∷ [])) at ∙ rw append_assoc))
+    (either (separating b))
 
-abbrev pub closing : List ℕ → ℕ → Begun → Outcome
-closing [] at more = Ok (More more)
-closing (b ∷ text) at more = cond (ends_operation b) (ended_at more at) (closing text (at + 1) more)
+-- Behind a word stands nothing, or what separates words.
+pub data Ends : List ℕ → Type 0 where
+  nothing : Ends []
+  byte : {b : ℕ} {text : List ℕ} → separating b ≡ true → Ends (b ∷ text)
 
-abbrev pub in_front : List ℕ → List (List ℕ) → List (List ℕ)
-in_front word [] = word ∷ []
-in_front word (first ∷ words) = (word ++ first) ∷ words
+pub behind_word : (text : List ℕ) → Ends (drop (length (word_in text)) text)
+unfolding word_in
+behind_word [] = nothing
+behind_word (b ∷ text) =
+    ⊎_elim (λ (e : separating b ≡ true). rw e (byte e))
+    (λ (e : separating b ≡ false). rw e (behind_word text))
+    (either (separating b))
 
-behind_one : (begun : Begun) (word : List ℕ) (at : ℕ) (rest : Begun → Outcome) → with_word begun word at rest ≡ behind_words rest (with_one begun word at)
-behind_one begun [] at rest = refl
-behind_one begun (b ∷ word) at rest = go (meaning_of (b ∷ word)) refl
-  where
-    go : (m : Meaning) → meaning_of (b ∷ word) ≡ m → with_word begun (b ∷ word) at rest ≡ behind_words rest (with_one begun (b ∷ word) at)
-    go (Ok n) e = rw e
-    go (Err problem) e = rw e
-
--- With the same behind each, what follows a word follows it in turn.
-in_turn : {R : Type 0} (f : Begun → Result R Wrong) (g : Begun → Result Begun Wrong) (h : Begun → Result R Wrong)
-    → ((more : Begun) → f more ≡ behind_words h (g more)) → (r : Result Begun Wrong)
-    → behind_words f r ≡ behind_words h (behind_words g r)
-in_turn f g h same (Ok more) = same more
-in_turn f g h same (Err e) = refl
-
-joined : (word : List ℕ) (b : ℕ) (words : List (List ℕ)) → in_front word (onto_first b words) ≡ in_front (word ++ (b ∷ [])) words
-joined word b [] = refl
-joined word b (first ∷ words) = rw append_assoc
-
-some_words : (part : List ℕ) → in_front [] (slice_split is_blank part) ≡ slice_split is_blank part
-some_words part = go (slice_split is_blank part) (parts part)
-  where
-    parts : (part : List ℕ) → 0 < length (slice_split is_blank part)
-    parts part = rw length-slice_split (omega arith)
-
-    go : (words : List (List ℕ)) → 0 < length words → in_front [] words ≡ words
-    go [] h = absurd (omega arith)
-    go (first ∷ words) h = refl
-
-behind_same : {R : Type 0} (f g : Begun → Result R Wrong) → ((more : Begun) → f more ≡ g more) → (r : Result Begun Wrong) → behind_words f r ≡ behind_words g r
-behind_same f g same (Ok more) = same more
-behind_same f g same (Err e) = refl
-
-front_more : (b : ℕ) (text : List ℕ) → ends_operation b ≡ false → front (b ∷ text) ≡ b ∷ front text
-front_more b text e = rw (e, one-add)
-
--- A word whose end has come, and what follows it.
-word_over : (begun : Begun) (word : List ℕ) (words : List (List ℕ)) (at : ℕ) (f h : Begun → Outcome)
-    → ((more : Begun) → f more ≡ behind_words h (words_from more words (at + length word + 1)))
-    → with_word begun word at f ≡ behind_words h (words_from begun ((word ++ []) ∷ words) at)
-unfolding words_from
-word_over begun word words at f h same =
-    rw append-nil (behind_one begun word at f ∙ in_turn f (λ more. words_from more words (at + length word + 1)) h same (with_one begun word at))
-
--- Reading on behind the bytes so far of a word: the words up to the operation's end, and what that comes to.
-abbrev pub Apart : List ℕ → Begun → List ℕ → ℕ → Type 0
-Apart text begun word at =
-    read_from begun word text at ≡ behind_words (closing text (at + length word)) (words_from begun (in_front word (slice_split is_blank (front text))) at)
-
-module _ (b : ℕ) (text : List ℕ) (begun : Begun) (word : List ℕ) (at : ℕ) where
-  at_end : ends_operation b ≡ true → Apart (b ∷ text) begun word at
+module _ (begun : Begun) (a : ℕ) (w : List ℕ) (at : ℕ) where
+  -- A word that is a number.
+  pub number_word : (n : ℕ) {rest : List ℕ} → meaning_of (a ∷ w) ≡ Ok n → Ends rest
+      → read_from begun (a ∷ w) rest at ≡ read_from (added begun n) [] rest (at + length (a ∷ w))
   unfolding read_from
-  at_end e =
-      rw (end_no_blank b e, e)
-      (word_over begun word [] at (λ more. ended_at more (at + length word)) (closing (b ∷ text) (at + length word))
-      (λ more. rw (no_words more (at + length word + 1), e)))
+  number_word n e nothing = rw e
+  number_word n e (byte {b} {text} s) =
+      ⊎_elim (λ (t : is_blank b ≡ true). rw (t, e, add-zero))
+      (λ (t : is_blank b ≡ false). rw (t, other (is_blank b) (ends_operation b) s t, e, add-zero))
+      (either (is_blank b))
 
-  module _ (e : ends_operation b ≡ false) where
-    at_blank : is_blank b ≡ true → ((more : Begun) → Apart text more [] (at + length word + 1)) → Apart (b ∷ text) begun word at
-    unfolding read_from
-    at_blank f rest =
-        rw (front_more b text e, f)
-        (word_over begun word (slice_split is_blank (front text)) at (λ more. read_from more [] text (at + length word + 1))
-        (closing (b ∷ text) (at + length word))
-        (λ more. rw (some_words (front text), add-zero) at (rest more)
-        ∙ behind_same (closing text (at + length word + 1)) (closing (b ∷ text) (at + length word)) (λ last. rw e)
-        (words_from more (slice_split is_blank (front text)) (at + length word + 1))))
+  pub wrong_word : (problem : Problem) {rest : List ℕ} → meaning_of (a ∷ w) ≡ Err problem → Ends rest
+      → read_from begun (a ∷ w) rest at ≡ wrong problem at
+  unfolding read_from
+  wrong_word problem e nothing = rw e
+  wrong_word problem e (byte {b} {text} s) =
+      ⊎_elim (λ (t : is_blank b ≡ true). rw (t, e))
+      (λ (t : is_blank b ≡ false). rw (t, other (is_blank b) (ends_operation b) s t, e))
+      (either (is_blank b))
 
-    in_word : is_blank b ≡ false → Apart text begun (word ++ (b ∷ [])) at → Apart (b ∷ text) begun word at
-    unfolding read_from
-    in_word f rest =
-        let further : at + length (word ++ (b ∷ [])) ≡ at + length word + 1 = simp length-append (omega arith) in
-        rw (front_more b text e, f, e, joined word b (slice_split is_blank (front text)))
-        (rest
-        ∙ behind_same (closing text (at + length (word ++ (b ∷ [])))) (closing (b ∷ text) (at + length word)) (λ last. rw (e, further))
-        (words_from begun (in_front (word ++ (b ∷ [])) (slice_split is_blank (front text))) at))
+-- The same of a word that has a byte.
+number_behind : (begun : Begun) (word : List ℕ) (at n : ℕ) {rest : List ℕ} → 0 < length word → meaning_of word ≡ Ok n → Ends rest
+    → read_from begun word rest at ≡ read_from (added begun n) [] rest (at + length word)
+number_behind begun [] at n h = absurd (omega arith)
+number_behind begun (a ∷ w) at n h = number_word begun a w at n
 
-read_apart : (text : List ℕ) (begun : Begun) (word : List ℕ) (at : ℕ) → Apart text begun word at
+wrong_behind : (begun : Begun) (word : List ℕ) (at : ℕ) (problem : Problem) {rest : List ℕ} → 0 < length word → meaning_of word ≡ Err problem
+    → Ends rest
+    → read_from begun word rest at ≡ wrong problem at
+wrong_behind begun [] at problem h = absurd (omega arith)
+wrong_behind begun (a ∷ w) at problem h = wrong_word begun a w at problem
+
+-- What stands at a place past the text's end.
+pub past_at : (s : List ℕ) (at : ℕ) (begun : Begun) → length s ≤ at → read_from begun [] (drop at s) at ≡ Ok (More begun)
 unfolding read_from
-read_apart [] begun word at =
-    word_over begun word [] at (λ more. Ok (More more)) (closing [] (at + length word))
-    (λ more. ap (behind_words (closing [] (at + length word))) (sym (no_words more (at + length word + 1))))
-read_apart (b ∷ text) begun word at =
-    ⊎_elim (at_end b text begun word at)
-    (λ (e : ends_operation b ≡ false).
-    ⊎_elim (λ (f : is_blank b ≡ true). at_blank b text begun word at e f (λ more. read_apart text more [] (at + length word + 1)))
-    (λ (f : is_blank b ≡ false). in_word b text begun word at e f (read_apart text begun (word ++ (b ∷ [])) at))
-    (either (is_blank b)))
-    (either (ends_operation b))
+past_at s at begun h = rw (drop_of_length-le s h)
 
--- The same from a place on, where no word has begun.
-pub read_words : (text : List ℕ) (begun : Begun) (at : ℕ)
-    → read_from begun [] text at ≡ behind_words (closing text at) (words_from begun (slice_split is_blank (front text)) at)
-read_words text begun at = rw (some_words (front text), add-zero) at (read_apart text begun [] at)
+-- What stands at a place of the text.
+module _ (s : List ℕ) (at : ℕ) (begun : Begun) (h : at < length s) where
+  pub blank_at : is_blank (get_or s at 0) ≡ true → read_from begun [] (drop at s) at ≡ read_from begun [] (drop (at + 1) s) (at + 1)
+  unfolding read_from
+  blank_at e = rw (from_byte s at h, e, add-zero)
 
-pub closing_ends : (text : List ℕ) (at : ℕ) (more : Begun) → position_or_len ends_operation text < length text
-    → closing text at more ≡ ended_at more (at + position_or_len ends_operation text)
-closing_ends [] at more h = absurd (omega arith)
-closing_ends (b ∷ text) at more h =
-    ⊎_elim (λ (e : ends_operation b ≡ true). rw (e, add-zero))
-    (λ (e : ends_operation b ≡ false).
-    let left = rw e at h in
-    let place : at + 1 + position_or_len ends_operation text ≡ at + (1 + position_or_len ends_operation text) = omega arith in
-    rw (e, ← place) (closing_ends text (at + 1) more (omega arith)))
-    (either (ends_operation b))
+  pub end_at : is_blank (get_or s at 0) ≡ false → ends_operation (get_or s at 0) ≡ true → read_from begun [] (drop at s) at ≡ ended_at begun at
+  unfolding read_from
+  end_at e f = rw (from_byte s at h, e, f, add-zero)
 
-pub closing_more : (text : List ℕ) (at : ℕ) (more : Begun) → length text ≤ position_or_len ends_operation text → closing text at more ≡ Ok (More more)
-closing_more [] at more h = refl
-closing_more (b ∷ text) at more h =
-    ⊎_elim (λ (e : ends_operation b ≡ true). let left = rw e at h in absurd (omega arith))
-    (λ (e : ends_operation b ≡ false). let left = rw e at h in rw e (closing_more text (at + 1) more (omega arith)))
-    (either (ends_operation b))
+  module _ (e : is_blank (get_or s at 0) ≡ false) (f : ends_operation (get_or s at 0) ≡ false) where
+    pub word_here : word_in (drop at s) ≡ get_or s at 0 ∷ word_in (drop (at + 1) s)
+    word_here = word_goes s at h (rw (e, f))
+
+    whole : read_from begun [] (drop at s) at ≡ read_from begun (word_in (drop at s)) (drop (length (word_in (drop at s))) (drop at s)) at
+    whole = gathered (drop at s) begun [] at
+
+    some : 0 < length (word_in (drop at s))
+    some = rw word_here (omega arith)
+
+    pub number_at : (n : ℕ) → meaning_of (word_in (drop at s)) ≡ Ok n
+        → read_from begun [] (drop at s) at
+        ≡ read_from (added begun n) [] (drop (at + length (word_in (drop at s))) s) (at + length (word_in (drop at s)))
+    number_at n m =
+        whole ∙ number_behind begun (word_in (drop at s)) at n some m (behind_word (drop at s)) ∙ rw (drop-drop (length (word_in (drop at s))) at s)
+
+    pub wrong_at : (problem : Problem) → meaning_of (word_in (drop at s)) ≡ Err problem → read_from begun [] (drop at s) at ≡ wrong problem at
+    wrong_at problem m = whole ∙ wrong_behind begun (word_in (drop at s)) at problem some m (behind_word (drop at s))
 
 -- What holds behind each number, and of a wrong word, holds behind a word.
 through_word : (P : Outcome → Type 0) (begun : Begun) (word : List ℕ) (at : ℕ) (rest : Begun → Outcome) → ((more : Begun) → P (rest more))

@@ -19,6 +19,11 @@ ends_operation b = one_of (bytes_of_text "\n/#") b
 abbrev pub separating : ℕ → Bool
 separating b = is_blank b || ends_operation b
 
+-- The word in front of a text: its bytes up to the first that separates words.
+unfoldable pub word_in : List ℕ → List ℕ
+word_in [] = []
+word_in (b ∷ text) = cond (separating b) [] (b ∷ word_in text)
+
 -- What a word is: a number, or what is wrong with it.
 abbrev pub Meaning : Type 0
 Meaning = Result ℕ Problem

@@ -1,12 +1,13 @@
 // Recordings as text, which `pack` reads: words of digits, cut by white space, and the ends of operations.
 #![tactic(auto)]
 
-ghost use Rattle.std.specs.Prelude.{◌≡◌, [], ◌+◌, ◌≤◌, ◌^◌, min, length, drop, take, set, ◌<◌, ◌==◌, true, false, MatchOption};
-ghost use Rattle.std.specs.List.{position_or_len, slice_split};
+ghost use Rattle.std.specs.Prelude.{◌≡◌, cond, [], ◌+◌, ◌≤◌, length, drop, set, ◌<◌, ◌==◌, Ok, Err};
+ghost use Rattle.std.specs.List.{position_or_len};
+ghost use Rattle.notation.specs.declared.Problem.TheVariants.{NoNumber};
 ghost use Rattle.notation.specs.Text.{digit_of, appended};
-ghost use Rattle.notation.specs.Words.{is_blank, ends_operation, separating, with_digit, digits_of, prefixed, is_prefixed, meaning_of, whole_words};
+ghost use Rattle.notation.specs.Words.{is_blank, ends_operation, separating, word_in, digits_of, prefixed, is_prefixed, meaning_of, whole_words};
 ghost use Rattle.notation.specs.Reading.{none_begun, six_of, of_six, added, ended_at, read_from};
-ghost use Rattle.notation.specs.Places.{line_length, with_one, words_from};
+ghost use Rattle.notation.specs.Places.{located, line_length};
 
 use operation::LAST_CODE;
 use recording::{Numbers, field_count};
@@ -63,11 +64,11 @@ fn ends_operation(byte: u8) -> bool
     matches!(byte, b'\n' | b'/' | b'#')
 }
 
-// What no word holds.
+// What no word holds: white space, or what ends an operation. (One `matches!` and not two, which no compiler makes one test of.)
 pub fn separates(byte: u8) -> bool
     ensures { result ≡ separating byte }
 {
-    is_blank(byte) | ends_operation(byte)
+    matches!(byte, b' ' | b'\t' | b'\r' | b'\n' | b'/' | b'#')
 }
 
 // The value of a digit of a base, hexadecimal ones among them.
@@ -86,54 +87,68 @@ fn appended<const BASE: u32>(value: u64, digit: u64) -> Option<u64>
     value.checked_mul(u64::from(BASE))?.checked_add(digit)
 }
 
-// A value with a digit of a base more.
-fn with_digit<const BASE: u32>(value: u64, byte: u8) -> Result<u64, Problem>
-    requires { (2 ≤ BASE) × (BASE ≤ 16) }
-    ensures { result ≡ with_digit BASE value byte }
+// A number whose digits end at a byte that is none: it has to end the word.
+fn number_before(byte: u8, value: u64, at: usize) -> Result<(u64, usize), Problem>
+    ensures { result ≡ cond (separating byte) (Ok (value, at)) (Err NoNumber) }
 {
-    let digit = digit_of::<BASE>(byte).ok_or(Problem::NoNumber)?;
-    appended::<BASE>(value, digit).ok_or(Problem::TooLarge)
+    if separates(byte) {
+        return Ok((value, at));
+    }
+    Err(Problem::NoNumber)
 }
 
-// The number that digits of a base come to. The base is a constant, so that each instance multiplies by a constant.
-#[tactic(auto, using(crate::proofs::Words::digits_end, crate::proofs::Words::digit_wrong, crate::proofs::Words::digit_passed))]
-fn digits_of<const BASE: u32>(word: &[u8]) -> Result<u64, Problem>
-    requires { (2 ≤ BASE) × (BASE ≤ 16) }
-    ensures { result ≡ digits_of BASE 0 word.now }
+// The number that digits of a base come to, from a place on, and the place after them. Each byte is looked at once: digits end where
+// one that is none stands. The base is a constant, so that each instance multiplies by a constant.
+fn digits_at<const BASE: u32>(bytes: &[u8], at: usize) -> Result<(u64, usize), Problem>
+    requires { (2 ≤ BASE) × (BASE ≤ 16) × (at ≤ length bytes.now) }
+    ensures { result ≡ located (drop at bytes.now) at (digits_of BASE 0 (word_in (drop at bytes.now))) }
 {
     let mut value = 0;
-    for byte in word {
-        value = with_digit::<BASE>(value, *byte)?;
+    for i in at..bytes.len() {
+        let Some(digit) = digit_of::<BASE>(bytes[i]) else {
+            return number_before(bytes[i], value, i);
+        };
+        let Some(more) = appended::<BASE>(value, digit) else {
+            return Err(Problem::TooLarge);
+        };
+        value = more;
     }
-    Ok(value)
+    Ok((value, bytes.len()))
 }
 
 // What follows 0x: at least a digit.
-fn prefixed(digits: &[u8]) -> Result<u64, Problem>
-    ensures { result ≡ prefixed digits.now }
+fn prefixed_at(bytes: &[u8], at: usize) -> Result<(u64, usize), Problem>
+    ensures { result ≡ located (drop at bytes.now) at (prefixed (word_in (drop at bytes.now))) }
 {
-    if digits.is_empty() {
+    if bytes.len() <= at {
         return Err(Problem::NoNumber);
     }
-    digits_of::<16>(digits)
-}
-
-// What is behind 0x or 0X, where a word starts with it.
-fn hexadecimal(word: &[u8]) -> Option<&[u8]>
-    ensures { MatchOption result (is_prefixed word.now ≡ false) (λ digits. (is_prefixed word.now ≡ true) × (digits.now ≡ drop 2 word.now)) }
-{
-    word.strip_prefix(b"0x").or(word.strip_prefix(b"0X"))
-}
-
-// What a word is: a number in hexadecimal, behind 0x, or in decimal.
-#[tactic(auto, unfolding(crate::specs::Words::meaning_of))]
-fn meaning_of(word: &[u8]) -> Result<u64, Problem>
-    ensures { result ≡ meaning_of word.now }
-{
-    match hexadecimal(word) {
-        Some(digits) => prefixed(digits),
-        None => digits_of::<10>(word),
+    if separates(bytes[at]) {
+        return Err(Problem::NoNumber);
     }
+    digits_at::<16>(bytes, at)
+}
+
+// Whether 0x or 0X stands at a place.
+fn is_prefix(bytes: &[u8], at: usize) -> bool
+    requires { at < length bytes.now }
+    ensures { result ≡ is_prefixed (word_in (drop at bytes.now)) }
+{
+    if bytes.len() - at < 2 {
+        return false;
+    }
+    (bytes[at] == b'0') & ((bytes[at + 1] == b'X') | (bytes[at + 1] == b'x'))
+}
+
+// What the word at a place is, and the place after it: a number in hexadecimal, behind 0x, or in decimal.
+fn word_at(bytes: &[u8], at: usize) -> Result<(u64, usize), Problem>
+    requires { at < length bytes.now }
+    ensures { result ≡ located (drop at bytes.now) at (meaning_of (word_in (drop at bytes.now))) }
+{
+    if is_prefix(bytes, at) {
+        return prefixed_at(bytes, at + 2);
+    }
+    digits_at::<10>(bytes, at)
 }
 
 // Before the first number of an operation.
@@ -148,12 +163,15 @@ pub fn none_begun() -> Begun
 fn with_number(x: Numbers, i: u64, n: u64) -> Numbers
     ensures { result ≡ of_six (set (six_of x) i n) }
 {
-    let mut list = [x.code, x.cycles, x.a, x.b, x.c, x.d];
-    if i < 6 {
-        list[i as usize] = n;
+    match i {
+        0 => Numbers { code: n, ..x },
+        1 => Numbers { cycles: n, ..x },
+        2 => Numbers { a: n, ..x },
+        3 => Numbers { b: n, ..x },
+        4 => Numbers { c: n, ..x },
+        5 => Numbers { d: n, ..x },
+        _ => x,
     }
-    let [code, cycles, a, b, c, d] = list;
-    Numbers::new(code, cycles, a, b, c, d)
 }
 
 // With a number more. No text is so long that the count stands still.
@@ -195,53 +213,30 @@ fn from_place(bytes: &[u8], at: usize) -> &[u8]
     bytes.get(at..).unwrap_or_default()
 }
 
-// How many bytes stand before the first that ends an operation.
-fn operation_length(text: &[u8]) -> usize
-    ensures { result ≡ position_or_len ends_operation text.now }
-{
-    text.iter()
-        .take_while(|byte| !ends_operation(**byte))
-        .count()
-}
-
-// With a word more, which starts at a place and may have no bytes.
-fn word_read(word: &[u8], at: usize, begun: Begun) -> Result<Begun, Wrong>
-    ensures { result ≡ with_one begun word.now at }
-{
-    if word.is_empty() {
-        return Ok(begun);
-    }
-    match meaning_of(word) {
-        Ok(n) => Ok(added(begun, n)),
-        Err(problem) => Err(Wrong { problem, at }),
-    }
-}
-
-// With the words of a part of an operation that starts at a place. White space is between them.
-fn words_read(part: &[u8], at: usize, begun: Begun) -> Result<Begun, Wrong>
-    requires { at + length part.now < 2 ^ 64 }
-    ensures { result ≡ words_from begun (slice_split is_blank part.now) at }
-{
-    let mut so_far = begun;
-    let mut passed = 0;
-    for word in part.split(|byte| is_blank(*byte)) {
-        so_far = word_read(word, at + passed, so_far)?;
-        passed += word.len() + 1;
-    }
-    Ok(so_far)
-}
-
-// Reads on from a place, which is no word's middle, to the operation's end. The bytes' end is the end of a word.
+// Reads on from a place, which is no word's middle, to the operation's end. The bytes' end is the end of a word. (One pass: with the
+// words cut by `split`, `pack` took 1.4 times as long on a text in columns.)
 pub fn read_on(bytes: &[u8], at: usize, begun: Begun) -> Result<Step, Wrong>
     ensures { result ≡ read_from begun [] (drop at bytes.now) at }
 {
-    let text = from_place(bytes, at);
-    let n = operation_length(text);
-    let more = words_read(&text[..n], at, begun)?;
-    if n < text.len() {
-        return ended(more, at + n);
+    let mut so_far = begun;
+    let mut place = at;
+    while place < bytes.len() {
+        let byte = bytes[place];
+        if is_blank(byte) {
+            place += 1;
+        } else if ends_operation(byte) {
+            return ended(so_far, place);
+        } else {
+            match word_at(bytes, place) {
+                Ok((n, next)) => {
+                    so_far = added(so_far, n);
+                    place = next;
+                }
+                Err(problem) => return Err(Wrong { problem, at: place }),
+            }
+        }
     }
-    Ok(Step::More(more))
+    Ok(Step::More(so_far))
 }
 
 // How many bytes stand before the first line's end.
