@@ -67,13 +67,16 @@ const POWERS: [u64; 19] = [
     10_000_000_000_000_000_000,
 ];
 
-// How many decimal digits n has: one, and one more for each of these powers that it reaches. (Most numbers have one: the first
-// test makes them faster.)
+// How many decimal digits n has: one, and one more for each of these powers that it reaches. (Most numbers have one or two: the
+// first tests make them faster.)
 fn decimal_digits(n: u64) -> usize
     ensures { result ≡ decimal_count 20 n }
 {
     if n < 10 {
         return 1;
+    }
+    if n < 100 {
+        return 2;
     }
     POWERS.partition_point(|power| *power <= n) + 1
 }

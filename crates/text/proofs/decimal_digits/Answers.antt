@@ -46,6 +46,11 @@ unfolding decimal_count
 returns-then-n-lt10 c =
     rw (lt-ltb c.args.n 10 c.if-n-lt10.true) refl
 
+pub returns-then-n-lt100 : goal.returns-then-n-lt100
+unfolding decimal_count
+returns-then-n-lt100 c =
+    omega (arith, count_between 10 19 1 c.args.n (omega arith) (omega arith) (omega arith) (omega arith))
+
 pub returns : goal.returns
 unfolding decimal_count powers
 returns c =
