@@ -13,7 +13,9 @@ use recording::{Numbers, field_count};
 // A line has at most this many bytes, its end included.
 pub const LONGEST_LINE: usize = 256;
 
-// An operation's word, and the cycles, which every operation has.
+// An operation's word, and the cycles, which every operation has. (Where it is called, the word's length is known: it is stored, and
+// nothing is called to copy it.)
+#[inline(always)]
 fn put_opening(out: &mut Output, word: &[u8], x: Numbers)
     ensures { Put out.old (word.now ++ cycles_field x) out.new }
 {
