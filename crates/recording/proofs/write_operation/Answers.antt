@@ -1,12 +1,11 @@
 -- Writing an operation, as defined: each way out knows the refusal, and the bytes are those of the operation's own numbers.
-use Prim.Native.Nat.{ℕ, ◌+◌, ◌≤◌}
-use mathlib.Core.Path.{◌≡◌, sym, ap, ◌∙◌}
-use mathlib.Core.Bool.{Bool, true, false}
-use lib.Dec.{leb}
+use Prim.Native.Nat.{ℕ, ◌+◌, ◌≤◌, ◌<◌}
+use mathlib.Core.Path.{◌≡◌, ap, ◌∙◌}
 use mathlib.Core.List.{List, [], ◌∷◌}
 use native.Mathlib.Numerals.{add-two}
+use Rattle.std.proofs.Common.{rules}
 use native.Mathlib.Omega.{arith}
-use borrow.Author.Tests.{lt-ltb, le-ltb}
+use borrow.Author.Tests.{lt-ltb, le-ltb, lt-leb, le-leb}
 use lib.ListN.{length, take}
 use Rattle.answer.specs.declared.Answer.TheVariants.{Value, Refused}
 use Rattle.number.specs.Number.{written, written_if}
@@ -27,20 +26,18 @@ counted : (x : Numbers) (count size : ℕ) → count ≡ field_count x.code
     → size ≡ length (operation_bytes x)
 counted x count size e h = h ∙ ap length (own_bytes x count e)
 
--- The answers of an operation whose code is known, by what is told of the room.
-module _ (x : Numbers) (at : ℕ) (out : List ℕ) (size : ℕ) (test : Bool) (known : x.code ≤ last_code) (e : size ≡ length (operation_bytes x)) (t : test ≡ leb (at + size) (length out)) where
-  told : test ≡ leb (at + length (operation_bytes x)) (length out)
-  told = rw (← e) t
-
-  no_place : test ≡ false → (Refused 6 ≡ writing_of x at out) × (out ≡ written_operation x at out)
+-- The answers of an operation whose code is known, by whether it has room.
+module _ (x : Numbers) (at : ℕ) (out : List ℕ) (size : ℕ) (known : x.code ≤ last_code) (e : size ≡ length (operation_bytes x)) where
+  no_place : length out < at + size → (Refused 6 ≡ writing_of x at out) × (out ≡ written_operation x at out)
   unfolding writing_of written_operation written_if
-  no_place f =
-      let no = sym told ∙ f in let code = le-ltb last_code x.code known in (rw (code, no), rw (code, no))
+  no_place h =
+      let no = lt-leb (at + length (operation_bytes x)) (length out) (rw e at h) in let code = le-ltb last_code x.code known in (rw (code, no), rw (code, no))
 
-  a_place : test ≡ true → (Value size ≡ writing_of x at out) × (written out at (operation_bytes x) ≡ written_operation x at out)
+  a_place : at + size ≤ length out → (Value size ≡ writing_of x at out) × (written out at (operation_bytes x) ≡ written_operation x at out)
   unfolding writing_of written_operation written_if
-  a_place f =
-      let yes = sym told ∙ f in let code = le-ltb last_code x.code known in (rw (code, yes) (ap Value e), rw (code, yes))
+  a_place h =
+      let yes = le-leb (at + length (operation_bytes x)) (length out) (rw e at h) in
+      let code = le-ltb last_code x.code known in (rw (code, yes) (ap Value e), rw (code, yes))
 
 pub returns-then-x-gt-LAST_CODE-clause-value : goal.returns-then-x-gt-LAST_CODE-clause-value
 unfolding writing_of
@@ -56,21 +53,21 @@ returns-then-not-has_room-clause-value c =
     let a = c.args in
     let n = c.numbers_length-size in
     let size = counted a.x c.field_count.result n.result c.field_count.ensures.0 n.ensures.0 in
-    c.into-then-not-has_room.ensures ∙ (no_place a.x a.at a.out.now n.result c.has_room.result (omega arith) size c.has_room.ensures c.if-not-has_room.true).0
+    c.into-then-not-has_room.ensures ∙ (no_place a.x a.at a.out.now n.result (omega arith) size (search rules)).0
 
 pub returns-then-not-has_room-clause-out_after : goal.returns-then-not-has_room-clause-out_after
 returns-then-not-has_room-clause-out_after c =
     let a = c.args in
     let n = c.numbers_length-size in
     let size = counted a.x c.field_count.result n.result c.field_count.ensures.0 n.ensures.0 in
-    (no_place a.x a.at a.out.now n.result c.has_room.result (omega arith) size c.has_room.ensures c.if-not-has_room.true).1
+    (no_place a.x a.at a.out.now n.result (omega arith) size (search rules)).1
 
 pub returns-clause-value : goal.returns-clause-value
 returns-clause-value c =
     let a = c.args in
     let n = c.numbers_length-size in
     let size = counted a.x c.field_count.result n.result c.field_count.ensures.0 n.ensures.0 in
-    (a_place a.x a.at a.out.now n.result c.has_room.result (omega arith) size c.has_room.ensures c.if-not-has_room.false).0
+    (a_place a.x a.at a.out.now n.result (omega arith) size (search rules)).0
 
 pub returns-clause-out_after : goal.returns-clause-out_after
 returns-clause-out_after c =
@@ -80,4 +77,4 @@ returns-clause-out_after c =
     let size = counted a.x f.result n.result f.ensures.0 n.ensures.0 in
     c.write_numbers.ensures
     ∙ ap (written a.out.now a.at) (own_bytes a.x f.result f.ensures.0)
-    ∙ (a_place a.x a.at a.out.now n.result c.has_room.result (omega arith) size c.has_room.ensures c.if-not-has_room.false).1
+    ∙ (a_place a.x a.at a.out.now n.result (omega arith) size (search rules)).1
