@@ -1,10 +1,12 @@
 -- `number::put` meets its contract. The loop's invariant: what is left, stored from here on, is the whole of n stored
 -- from its place on. Assumes nothing.
-use Prim.Native.Nat.{◌+◌, ◌-◌, ◌<◌}
+use Prim.Native.Nat.{ℕ, ◌<◌}
 use mathlib.Core.Path.{◌≡◌, refl, ap, ◌∙◌}
 use native.Mathlib.Numerals.{add-one}
 use native.Mathlib.Omega.{arith}
-use lib.ListN.{length, length-set}
+use mathlib.Core.List.{List}
+use lib.ListN.{length, set, length-set}
+use lib.Seq.{sets}
 use Rattle.number.specs.Number.{bytes_of}
 use Rattle.number.proofs.Laws.{last_of, more_of_lem, length_of, one_byte, several_bytes, sets_written}
 use Rattle.number.proofs.put.Goals as goal
@@ -41,9 +43,13 @@ pub bounds-out-last : goal.bounds-out-last
 bounds-out-last c =
     omega (arith, length_of c.args.n)
 
+-- The last byte, stored at the last place
+last_stored : {last : ℕ} {whole : List ℕ} (out : List ℕ) (i left : ℕ) → left < 128 → i ≡ last → sets out i (bytes_of left) ≡ whole → set out last left ≡ whole
+last_stored out i left h e w =
+    rw (last_of left h, e) at w
+
 pub returns : goal.returns
 returns c =
     let a = c.args in
     let l = c.loop-i in
-    let place : l.i ≡ a.at + (a.size - 1) = omega arith in
-    rw (last_of l.left (small c), place) at l.invariant.3 ∙ sets_written a.out.now a.at (bytes_of a.n) (omega arith)
+    last_stored l.out l.i l.left (small c) (omega arith) l.invariant.3 ∙ sets_written a.out.now a.at (bytes_of a.n) (omega arith)
