@@ -1,5 +1,5 @@
 -- Lengths of what is written, and a store at the end before the stores in front of it.
-use Prim.Native.Nat.{ℕ, zero, suc, ◌+◌, ◌-◌, ◌/◌, ◌%◌, ◌^◌, ◌*◌, ◌≤◌, ◌<◌, max}
+use Prim.Native.Nat.{ℕ, zero, suc, ◌+◌, ◌-◌, ◌/◌, ◌%◌, ◌^◌, ◌*◌, ◌≤◌, ◌<◌}
 use mathlib.Core.Path.{◌≡◌, refl, ap, ◌∙◌}
 use mathlib.Core.List.{List, [], ◌∷◌, ◌++◌}
 use mathlib.Core.Logic.{⊎_elim}
@@ -79,8 +79,11 @@ four_bits n r small above below =
     let high : 2 ^ suc r ≤ 16 ^ suc k = rw (pow_four (suc k)) (pow-le-pow_right (omega arith) (omega arith)) in
     count_between 16 15 k n (omega arith) (omega arith) (λ _. omega arith) (omega (arith, pow-suc 2 r))
 
-pub bits_counted : (n r : ℕ) → r < 64 → 2 ^ r ≤ max n 1 → max n 1 < 2 * 2 ^ r → r / 4 + 1 ≡ digit_count 16 16 n
-bits_counted zero r small above below = omega (arith, four_bits 1 r small above below)
-bits_counted (suc n) r small above below =
-    let same : max (suc n) 1 ≡ suc n = omega arith in
-    omega (arith, four_bits (suc n) r small (rw same at above) (rw same at below))
+-- Numbers that differ in their last digit alone have as many digits.
+same_count : (most n m : ℕ) → m / 16 ≡ n / 16 → digit_count 16 (suc most) m ≡ digit_count 16 (suc most) n
+same_count most n m e =
+    ⊎_elim (λ (h : n < 16). rw (lt-ltb n 16 h, lt-ltb m 16 (omega arith))) (λ (h : 16 ≤ n). rw (le-ltb n 16 h, le-ltb m 16 (omega arith), e)) (below_or_not n 16)
+
+-- Where the highest bit of such a number stands tells how many digits n has.
+pub bits_counted : (n m r : ℕ) → r < 64 → 2 ^ r ≤ m → m < 2 * 2 ^ r → m / 16 ≡ n / 16 → r / 4 + 1 ≡ digit_count 16 16 n
+bits_counted n m r small above below same = omega (arith, four_bits m r small above below, same_count 15 n m same)
