@@ -2,8 +2,8 @@
 use Prim.Native.Nat.{ℕ, suc, ◌+◌, ◌≤◌, ◌<◌}
 use native.Mathlib.Omega.{arith}
 use mathlib.Core.Path.{◌≡◌, sym, ap, subst, ◌∙◌}
-use borrow.Author.Tests.{lt-ltb, le-leb, lt-leb}
-use lib.Dec.{ltb, leb}
+use borrow.Author.Tests.{le-leb, lt-leb}
+use lib.Dec.{leb}
 use mathlib.Core.Logic.{⊎_elim}
 use mathlib.Core.List.{List}
 use lib.ListN.{length}
@@ -56,18 +56,20 @@ module _ (bytes : List ℕ) where
   many most h l =
       let p = passed_from most bytes 0 in omega (arith, h, (counted most).1, ap length (one_left bytes p.at l))
 
-  -- What two tests of those that were passed come to.
-  module _ (most : ℕ) (p : Passage) (e : p ≡ passed_from most bytes 0) where
-    pub fewer : p.count < most → ltb p.count most ≡ leb (length (readings bytes)) most
-    fewer h =
-        lt-ltb p.count most h ∙ sym (le-leb (length (readings bytes)) most (few most (subst (λ (q : Passage). q.count < most) e h)))
+  -- What two tests of those that were passed come to, where as many were asked for as may be.
+  module _ {asked : ℕ} (most : ℕ) (p : Passage) (e : p ≡ passed_from asked bytes 0) (same : asked ≡ most) where
+    passed : p ≡ passed_from most bytes 0
+    passed = rw (← same) e
+
+    pub fewer : p.count < most → length (readings bytes) ≤ most
+    fewer h = few most (subst (λ (q : Passage). q.count < most) passed h)
 
     pub as_many : most ≤ p.count → leb (length bytes) p.at ≡ leb (length (readings bytes)) most
     as_many h =
         ⊎_elim
         (λ (l : p.at < length bytes).
         lt-leb (length bytes) p.at l
-        ∙ sym (lt-leb (length (readings bytes)) most (many most (subst (λ (q : Passage). most ≤ q.count) e h) (subst (λ (q : Passage). q.at < length bytes) e l))))
+        ∙ sym (lt-leb (length (readings bytes)) most (many most (subst (λ (q : Passage). most ≤ q.count) passed h) (subst (λ (q : Passage). q.at < length bytes) passed l))))
         (λ (l : length bytes ≤ p.at).
-        le-leb (length bytes) p.at l ∙ sym (le-leb (length (readings bytes)) most (all_passed most (subst (λ (q : Passage). length bytes ≤ q.at) e l))))
+        le-leb (length bytes) p.at l ∙ sym (le-leb (length (readings bytes)) most (all_passed most (subst (λ (q : Passage). length bytes ≤ q.at) passed l))))
         (below_or_not p.at (length bytes))

@@ -3,6 +3,7 @@ use native.Mathlib.Omega.{arith}
 use mathlib.Core.Path.{sym}
 use borrow.Author.Tests.{le-leb}
 use lib.ListN.{length}
+use Rattle.std.proofs.Common.{rules}
 use Rattle.recording.specs.Run.{readings}
 use Rattle.recording.proofs.Run.{half}
 use Rattle.batch.proofs.Most.{fewer, as_many}
@@ -17,8 +18,9 @@ returns-then-bytes-most c =
 
 pub returns-then-p-most : goal.returns-then-p-most
 returns-then-p-most c =
-    let a = c.args in fewer a.bytes.now a.most c.pass-p.result c.pass-p.ensures (omega arith)
+    let a = c.args in
+    rw (le-leb (length (readings a.bytes.now)) a.most (fewer a.bytes.now a.most c.pass-p.result c.pass-p.ensures (omega arith) (omega arith))) (search rules)
 
 pub returns-else-p-most : goal.returns-else-p-most
 returns-else-p-most c =
-    let a = c.args in as_many a.bytes.now a.most c.pass-p.result c.pass-p.ensures (omega arith)
+    let a = c.args in as_many a.bytes.now a.most c.pass-p.result c.pass-p.ensures (omega arith) (omega arith)
