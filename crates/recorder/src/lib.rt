@@ -34,6 +34,7 @@ fn accept(s: State, room: &mut [u64], o: Operation, cycles: u64) -> Stepped
 }
 
 // One operation, in any state, with any lent room: refused, and then nothing is changed, or accepted.
+#[tactic(auto, using(answer::proofs::Laws::not_0), unfolding(crate::specs::Step::step_of))]
 pub fn step(s: State, room: &mut [u64], o: Operation, cycles: u64) -> Stepped
     ensures { together result.answer result.state room.new ≡ step_of s o cycles room.old }
 {
