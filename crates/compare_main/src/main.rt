@@ -15,7 +15,7 @@ use buffer::{Output, ROOM, within};
 use compare::{FIRST, SECOND, Walk, bad_number, differing_of, parted, same_bytes};
 use comparison::{Told, put_told};
 use input::{AT_ONCE, Stop, Window, found_at, passage_at, reading_at};
-use message::NamedInput;
+use message::{LentInput, NamedInput};
 use program::Program;
 use recording::{Damage, Numbers, Passage};
 
@@ -114,7 +114,7 @@ fn more(count: u64, than: u64) -> u64
 #[derive(Drop)]
 struct Side<'a> {
     which: u64,
-    input: &'a mut NamedInput,
+    input: LentInput<'a>,
     bytes: [u8; ROOM],
     standing: Result<(), Stop>,
 }
@@ -123,7 +123,11 @@ impl<'a> Side<'a> {
     fn new(which: u64, input: &'a mut NamedInput) -> Side<'a> {
         Side {
             which,
-            input,
+            input: LentInput {
+                program: input.program,
+                reader: &mut input.reader,
+                name: input.name.text(),
+            },
             bytes: [0; ROOM],
             standing: Ok(()),
         }
@@ -153,7 +157,7 @@ impl<'a> Side<'a> {
 
     // Reads once.
     fn refill(&mut self, w: &mut Window) -> Result<(), Stop> {
-        self.standing = w.refill(self.input, &mut self.bytes);
+        self.standing = w.refill(&mut self.input, &mut self.bytes);
         self.standing
     }
 
@@ -164,7 +168,7 @@ impl<'a> Side<'a> {
             if let Err(stop) = self.standing {
                 return stop;
             }
-            self.standing = w.turn(self.input, &mut self.bytes);
+            self.standing = w.turn(&mut self.input, &mut self.bytes);
         }
         Stop::Ended
     }

@@ -10,7 +10,7 @@ ghost use Rattle.input.specs.Input.{begun, refilled_at, passed_at, damaged_at, p
 
 use answer::Refusal;
 use buffer::{ROOM, forward, move_down, within};
-use message::NamedInput;
+use message::LentInput;
 use number::{Fault, number_at};
 use program::Reader;
 use recording::{Damage, LONGEST_OPERATION, Numbers, Passage, operation_at, pass};
@@ -137,12 +137,13 @@ impl Window {
     }
 
     // Makes room at the front and reads once. Where the input cannot be read it says so.
-    pub fn refill(&mut self, input: &mut NamedInput, bytes: &mut [u8; ROOM]) -> Result<(), Stop>
+    pub fn refill(&mut self, input: &mut LentInput, bytes: &mut [u8; ROOM]) -> Result<(), Stop>
         ensures brings { self.old.end ≤ 65536 → Brings bytes.old self.old result bytes.new self.new }
         ensures end_in_bounds { self.old.end ≤ 65536 → self.new.end ≤ 65536 }
+        ensures input_unchanged { (input.new.program ≡ input.old.program) × (input.new.name ≡ input.old.name) × (input.new.reader.ghost_name ≡ input.old.reader.ghost_name) }
     {
         let left = move_down(bytes, self.start, self.end);
-        match input.read(&mut bytes[left..]) {
+        match input.reader.read(&mut bytes[left..]) {
             Ok(came) => {
                 *self = self.after_read(left, came);
                 Ok(())
@@ -183,9 +184,10 @@ impl Window {
     }
 
     // Passes over operations, or reads once where too little is there.
-    pub fn turn(&mut self, input: &mut NamedInput, bytes: &mut [u8; ROOM]) -> Result<(), Stop>
+    pub fn turn(&mut self, input: &mut LentInput, bytes: &mut [u8; ROOM]) -> Result<(), Stop>
         ensures value { needs_more self.old ≡ false → standing result self.new ≡ turned_at (passed_from at_once (take self.old.end bytes.old) self.old.start) (operation_at (take self.old.end bytes.old) self.old.start) self.old }
         ensures bytes_unchanged { needs_more self.old ≡ false → bytes.new ≡ bytes.old }
+        ensures input_unchanged { (input.new.program ≡ input.old.program) × (input.new.name ≡ input.old.name) × (input.new.reader.ghost_name ≡ input.old.reader.ghost_name) }
     {
         if self.needs_more() {
             return self.refill(input, bytes);

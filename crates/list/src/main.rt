@@ -10,13 +10,13 @@ ghost use Rattle.list.specs.List.{Listed, Turned, TurnedAt};
 use arguments::{Called, look};
 use buffer::{Output, ROOM};
 use input::{Window, found_at, reading_at};
-use message::NamedInput;
+use message::{LentInput, NamedInput};
 use program::Program;
 use readable::{LONGEST_LINE, put_line};
 use recording::Numbers;
 
 // The lines before go out first, then the message.
-fn refuse(input: &NamedInput, bytes: &[u8; ROOM], out: &mut Output, p: Window, at: usize)
+fn refuse(input: &LentInput, bytes: &[u8; ROOM], out: &mut Output, p: Window, at: usize)
     ensures { out.new ≡ [] }
 {
     out.flush(input.program);
@@ -47,7 +47,7 @@ fn listed(
 
 // Lists the operation that stands next.
 fn operation_listed(
-    input: &NamedInput,
+    input: &LentInput,
     bytes: &[u8; ROOM],
     out: &mut Output,
     numbers: bool,
@@ -66,7 +66,7 @@ fn operation_listed(
 
 // Lists an operation, or reads once where too little is there to be sure of a whole one; none where there is no more to do.
 fn turn(
-    input: &mut NamedInput,
+    input: &mut LentInput,
     numbers: bool,
     bytes: &mut [u8; ROOM],
     out: &mut Output,
@@ -87,16 +87,21 @@ fn turn(
 
 // A proved loop has to end, and nothing says that the input does. So the turns are counted, up to a number that no run uses up.
 fn list_all(input: &mut NamedInput, numbers: bool) {
+    let mut lent = LentInput {
+        program: input.program,
+        reader: &mut input.reader,
+        name: input.name.text(),
+    };
     let mut bytes = [0u8; ROOM];
     let mut out = Output::new();
     let mut place = Window::begin();
     for _ in 0..u64::MAX {
-        match turn(input, numbers, &mut bytes, &mut out, place) {
+        match turn(&mut lent, numbers, &mut bytes, &mut out, place) {
             Some(next) => place = next,
             None => break,
         }
     }
-    out.flush(input.program);
+    out.flush(lent.program);
 }
 
 fn main(rt: HostRuntime) {

@@ -4,7 +4,7 @@
 
 mod named;
 
-pub use named::{LONGEST_NAME, Name, NamedInput};
+pub use named::{LONGEST_NAME, LentInput, Name, NamedInput};
 use number::Fault;
 use operation::LAST_CODE;
 use program::Program;

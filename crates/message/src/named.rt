@@ -2,8 +2,7 @@
 use crate::{say_damage, say_unread};
 use number::Fault;
 use program::{Program, Reader};
-use std::io;
-use std::io::{Error, Read};
+use std::io::Error;
 use std::marker::Model;
 use std::os::fd::RawFd;
 
@@ -65,15 +64,24 @@ impl NamedInput {
     pub fn say_unread(&self, error: Error) {
         say_unread(self.program, self.name.text(), error);
     }
+}
+
+// An input that is lent to be read. Its name is lent to be looked at alone, and may have any length.
+#[derive(Drop)]
+pub struct LentInput<'a> {
+    pub program: Program,
+    pub reader: &'a mut Reader,
+    pub name: &'a [u8],
+}
+
+impl<'a> LentInput<'a> {
+    // What the system has against it.
+    pub fn say_unread(&self, error: Error) {
+        say_unread(self.program, self.name, error);
+    }
 
     // Where it is damaged as a recording, and how.
     pub fn say_damage(&self, byte: u64, operation: u64, found: Result<(u64, usize), Fault>) {
-        say_damage(self.program, self.name.text(), byte, operation, found);
-    }
-}
-
-impl Read for NamedInput {
-    fn read(&mut self, bytes: &mut [u8]) -> io::Result<usize> {
-        self.reader.read(bytes)
+        say_damage(self.program, self.name, byte, operation, found);
     }
 }

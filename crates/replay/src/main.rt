@@ -10,14 +10,14 @@ use arguments::look;
 use buffer::{ROOM, say_unwritten};
 use input::found_at;
 use line::LONGEST_LINE;
-use message::NamedInput;
+use message::{LentInput, NamedInput};
 use program::Program;
 use stream::{End, Progress};
 
 // A replay of an input: its room for records, the bytes that were read, the lines that wait, and where it stands.
 #[derive(Drop)]
 struct Replay<'a> {
-    source: &'a mut NamedInput,
+    source: LentInput<'a>,
     room: [u64; 192],
     input: [u8; ROOM],
     output: [u8; 4096],
@@ -29,7 +29,11 @@ struct Replay<'a> {
 impl<'a> Replay<'a> {
     fn new(source: &'a mut NamedInput) -> Replay<'a> {
         Replay {
-            source,
+            source: LentInput {
+                program: source.program,
+                reader: &mut source.reader,
+                name: source.name.text(),
+            },
             room: [0; 192],
             input: [0; ROOM],
             output: [0; 4096],
@@ -44,7 +48,7 @@ impl<'a> Replay<'a> {
     {
         self.progress
             .window
-            .refill(self.source, &mut self.input)
+            .refill(&mut self.source, &mut self.input)
             .map_err(|_| End::Done)
     }
 
