@@ -147,13 +147,15 @@ def promises_of(head):
 
 
 def undecided(head):
-    """What a function leaves open: its result, or a slice that it may change."""
+    """What a function leaves open: its result, or what it is lent and may change."""
     clauses = promises_of(head)
     signature = re.split(r"\n\s*(?:requires|ensures)\b", head)[0]
     left = []
     if "->" in signature and not any("≡" in c and re.search(r"\bresult\b", c) for c in clauses):
         left.append("its result")
-    for name in re.findall(r"(\w+): &(?:'\w+ )?mut\b", signature):
+    # What is lent is a parameter behind `&mut`, or the function's own value, as `&mut self` or `self: &mut ..`.
+    lent = re.findall(r"(\w+): &(?:'\w+ )?mut\b", signature) + re.findall(r"&(?:'\w+ )?mut (self)\b", signature)
+    for name in lent:
         if not any("≡" in c and re.search(r"\b%s\.new\b" % name, c) for c in clauses):
             left.append("`%s`" % name)
     return left
